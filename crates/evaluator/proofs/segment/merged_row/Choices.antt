@@ -1,0 +1,10 @@
+use Prim.Native.Nat.{suc, _-_}
+use Rattle.evaluator.specs.Parts.{merged}
+use Rattle.evaluator.specs.Tables.{entry}
+use Rattle.evaluator.proofs.Filled.{Filled}
+use Rattle.evaluator.proofs.segment.merged_row.Given as given
+use Rattle.std.specs.Of.Vec.{vec-items}
+
+abbrev pub Inv-loop-back : given.InvT-loop-back
+Inv-loop-back g l = let A = g .S·Scale .algebra in
+    Filled A (λ back. merged A (l .mode) (entry A (l .first) (l .first .size - suc back)) (entry A (l .second) (l .first .size - suc back))) (l .back) (vec-items (l .values))

@@ -1,0 +1,5 @@
+pub mod Judged
+pub mod Markings
+pub mod Parts
+pub mod Segments
+pub mod Tables

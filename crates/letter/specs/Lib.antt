@@ -1,0 +1,4 @@
+pub mod Bits
+pub mod Heard
+pub mod Lines
+pub mod Measured

@@ -1,0 +1,9 @@
+pub mod Heads
+pub mod Machine
+pub mod Parts
+pub mod Reading
+pub mod Reads
+pub mod Size
+pub mod Spelling
+pub mod Stands
+pub mod Tree

@@ -1,0 +1,4 @@
+pub mod Codes
+pub mod Lattice
+pub mod Margins
+pub mod VerdictLaws

@@ -1,0 +1,11 @@
+pub mod BitLogs
+pub mod Bounds
+pub mod Ground
+pub mod Longer
+pub mod Prefixes
+pub mod Ranges
+pub mod Rising
+pub mod Sanity
+pub mod Segments
+pub mod Settling
+pub mod Worked

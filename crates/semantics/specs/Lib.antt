@@ -1,0 +1,10 @@
+pub mod Continuations
+pub mod Endless
+pub mod Equations
+pub mod Examples
+pub mod Folds
+pub mod Later
+pub mod Marks
+pub mod Positions
+pub mod Reports
+pub mod Sanity
