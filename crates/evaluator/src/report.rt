@@ -12,7 +12,7 @@ ghost use Rattle.semantics.specs.Equations.{Ground};
 ghost use Rattle.semantics.specs.Examples.{Examples};
 ghost use Rattle.semantics.specs.Later.{Later, Ordered};
 ghost use Rattle.semantics.specs.Reports.{worth-on, report};
-ghost use Rattle.semantics.specs.Sanity.{Sane};
+ghost use Rattle.semantics.specs.Sanity.{BitsTwoWay, Sane};
 ghost use Rattle.std.specs.Vec.{made};
 use crate::mark::Marking;
 use crate::worth::rule_row;
@@ -69,7 +69,7 @@ fn three_values<S: Scale, L: Letter<Scale = S>>(
 // (answer). What these promise stands beside it, for every scale: they hold with no bound on a recursion, and so do the
 // equations of a segment with a continuation (ground); a report is in order (ordered); a later report lies between the
 // earlier floor and ceiling (later); on a scale that settles, best holds on every endless continuation and worst on none
-// (settles, sane); for bit letters on the verdict scale outright (bits); and the worked examples come out (examples).
+// (settles, sane); for bit letters on the verdict scale outright (bits, bits_two_way); and the worked examples come out (examples).
 pub fn judge_log<S: Scale, L: Letter<Scale = S>>(
     heap: Global,
     rule: &Rule,
@@ -82,6 +82,7 @@ pub fn judge_log<S: Scale, L: Letter<Scale = S>>(
     ensures settles { λ _. ⌜ Settles (S·Scale .algebra) ⌝ }
     ensures sane { λ _. ⌜ Sane (S·Scale .algebra) ⌝ }
     ensures bits { λ _. ⌜ BitsSettle ⌝ }
+    ensures bits_two_way { λ _. ⌜ BitsTwoWay ⌝ }
     ensures examples { λ _. ⌜ Examples ⌝ }
 {
     judged(heap, rule, letters)

@@ -1,4 +1,8 @@
-// judge: reads a rule and then bit letters from standard input, and prints the report after each letter.
+// judge: reads a rule and then bit letters from standard input, and prints the report after each letter. With the argument
+// `cells` it first prints the cells of the rule.
+mod cell_words;
+
+use cell_words::show_cells;
 use lines::answer::refusal;
 use lines::judging::answer_line;
 use lines::line::Line;
@@ -6,8 +10,16 @@ use lines::log::Log;
 use rule::Rule;
 use rule::read_rule;
 use std::alloc::Global;
+use std::env;
 use std::io;
 use std::io::Read;
+
+// What a run works with: the memory, and whether the cells are asked for.
+#[derive(Clone, Copy)]
+struct Run {
+    heap: Global,
+    cells: bool,
+}
 
 // How far the reading has come.
 #[derive(Drop)]
@@ -21,11 +33,16 @@ enum Stage {
 }
 
 // The rule's line has ended.
-fn take_rule(rt: &LibcRuntime, heap: Global, line: &Line) -> io::Result<Stage> {
-    match read_rule(heap, line.bytes()) {
-        Ok(rule) => Ok(Stage::Judging(rule)),
+fn take_rule(rt: &LibcRuntime, run: Run, line: &Line) -> io::Result<Stage> {
+    match read_rule(run.heap, line.bytes()) {
+        Ok(rule) => {
+            if run.cells {
+                show_cells(rt, &rule)?;
+            }
+            Ok(Stage::Judging(rule))
+        }
         Err(fault) => {
-            let text = refusal(heap, fault)?;
+            let text = refusal(run.heap, fault)?;
             print!(rt, "{text}")?;
             Ok(Stage::Ended)
         }
@@ -35,12 +52,12 @@ fn take_rule(rt: &LibcRuntime, heap: Global, line: &Line) -> io::Result<Stage> {
 // A letter's line has ended.
 fn take_letter(
     rt: &LibcRuntime,
-    heap: Global,
+    run: Run,
     rule: Rule,
     log: &mut Log,
     line: &Line,
 ) -> io::Result<Stage> {
-    match answer_line(heap, &rule, log, line.bytes())? {
+    match answer_line(run.heap, &rule, log, line.bytes())? {
         Some(text) => {
             print!(rt, "{text}")?;
             Ok(Stage::Judging(rule))
@@ -55,14 +72,14 @@ fn take_letter(
 // A line has ended.
 fn take_line(
     rt: &LibcRuntime,
-    heap: Global,
+    run: Run,
     stage: Stage,
     log: &mut Log,
     line: &Line,
 ) -> io::Result<Stage> {
     match stage {
-        Stage::Begun => take_rule(rt, heap, line),
-        Stage::Judging(rule) => take_letter(rt, heap, rule, log, line),
+        Stage::Begun => take_rule(rt, run, line),
+        Stage::Judging(rule) => take_letter(rt, run, rule, log, line),
         Stage::Ended => Ok(Stage::Ended),
     }
 }
@@ -70,7 +87,7 @@ fn take_line(
 // Some bytes more of the input.
 fn take_bytes(
     rt: &LibcRuntime,
-    heap: Global,
+    run: Run,
     stage: Stage,
     log: &mut Log,
     line: &mut Line,
@@ -79,7 +96,7 @@ fn take_bytes(
     let mut stage = stage;
     for byte in bytes {
         if *byte == b'\n' {
-            stage = take_line(rt, heap, stage, log, line)?;
+            stage = take_line(rt, run, stage, log, line)?;
             *line = Line::empty();
         } else {
             line.push(*byte);
@@ -91,7 +108,7 @@ fn take_bytes(
 // The input has ended: the rule's line ends here if it has not yet, and so does a line that has bytes.
 fn take_end(
     rt: &LibcRuntime,
-    heap: Global,
+    run: Run,
     stage: Stage,
     log: &mut Log,
     line: &Line,
@@ -101,15 +118,29 @@ fn take_end(
             if line.bytes().is_empty() {
                 Ok(Stage::Judging(rule))
             } else {
-                take_letter(rt, heap, rule, log, line)
+                take_letter(rt, run, rule, log, line)
             }
         }
-        other => take_line(rt, heap, other, log, line),
+        other => take_line(rt, run, other, log, line),
     }
 }
 
+// Whether an argument asks for the cells.
+fn wants_cells(rt: &LibcRuntime) -> io::Result<bool> {
+    let mut wanted = false;
+    for word in env::args(rt)? {
+        if word.as_str() == "cells" {
+            wanted = true;
+        }
+    }
+    Ok(wanted)
+}
+
 fn main(rt: LibcRuntime) -> io::Result<()> {
-    let heap = rt.alloc();
+    let run = Run {
+        heap: rt.alloc(),
+        cells: wants_cells(&rt)?,
+    };
     let mut input = rt.stdin();
     let mut buffer = [0u8; 65536];
     let mut stage = Stage::Begun;
@@ -120,11 +151,11 @@ fn main(rt: LibcRuntime) -> io::Result<()> {
         if count == 0 {
             break;
         }
-        stage = take_bytes(&rt, heap, stage, &mut log, &mut line, &buffer[0..count])?;
+        stage = take_bytes(&rt, run, stage, &mut log, &mut line, &buffer[0..count])?;
         if let Stage::Ended = stage {
             return Ok(());
         }
     }
-    let _ = take_end(&rt, heap, stage, &mut log, &line)?;
+    let _ = take_end(&rt, run, stage, &mut log, &line)?;
     Ok(())
 }

@@ -2,10 +2,13 @@ pub mod BitLogs
 pub mod Bounds
 pub mod Ground
 pub mod Longer
+pub mod Opposites
 pub mod Prefixes
 pub mod Ranges
 pub mod Rising
 pub mod Sanity
 pub mod Segments
 pub mod Settling
+pub mod Told
+pub mod Unrolling
 pub mod Worked

@@ -24,29 +24,8 @@ use Rattle.semantics.proofs.Prefixes.{backward, matches-same, open-same, match
 use Rattle.semantics.proofs.Ranges.{join-into}
 use Rattle.semantics.proofs.Rising.{not-not}
 use Rattle.semantics.proofs.Segments.{every-opposite}
+use Rattle.semantics.proofs.Told.{told, told-yes, yes-told, both-told, none-told}
 use Rattle.std.proofs.shelf.Tests.{cases-eq, cases-lt, eq-eqb, ne-eqb, cond-true, cond-false}
-
--- what can be told, as a test
-abbrev told : {X : Type 0} → Dec X → Bool
-told (yes x) = true
-told (no h) = false
-
-told-yes : {X : Type 0} (d : Dec X) → T (told d) → X
-told-yes (yes x) t = x
-told-yes (no h) t = absurd t
-
-yes-told : {X : Type 0} (d : Dec X) → X → T (told d)
-yes-told (yes x) y = tt
-yes-told (no h) y = h y
-
-both-told : {X Y : Type 0} → Dec X → Dec Y → Dec (X × Y)
-both-told (yes x) (yes y) = yes (x, y)
-both-told (yes x) (no h) = no (λ z. h (z .1))
-both-told (no h) d = no (λ z. h (z .0))
-
-none-told : {X : Type 0} → Dec X → Dec (X → ⊥)
-none-told (yes x) = no (λ h. h x)
-none-told (no h) = yes h
 
 -- best, or worst
 abbrev top : {S : Type 0} → Algebra S → Bool → S
@@ -244,7 +223,7 @@ module _ {S : Type 0} {A : Algebra S} (L : Lawful A) where
           (says-both good (worth-says s mark odd good d e i l) (says-any good (worth-says r mark odd good d e i l) (says-next good k a _ _ P i l (d k) h)))) i l
 
 pub settles : {S : Type 0} {A : Algebra S} → Lawful A → Settles A
-settles {S} {A} L G r log endless l continues plain = record {
+settles {S} {A} L G r log endless l continues = record {
   verdict-best = said (verdict-marks A) true no-best no-worst .says;
   verdict-worst = said (verdict-marks A) false no-worst no-best .says;
   floor-best = said (floor-marks A) true (λ k. L .apart) (λ k e. L .apart (sym e)) .says;

@@ -52,10 +52,10 @@ pub record Settled {S : Type 0} (A : Algebra S) (r : Rule) (log : List (Heard S)
   pub floor-best : floor A r log ≡ A .best → HoldsOn A r endless
   pub ceiling-worst : ceiling A r log ≡ A .worst → HoldsOn A r endless → ⊥
 
--- for every scale that settles and letters of worst and best
+-- for every scale that settles
 abbrev pub Settles : {S : Type 0} → Algebra S → Type 0
 Settles {S} A = Settling A → (r : Rule) (log : List (Heard S)) (endless : ℕ → Heard S)
-    → 0 < length log → Continues A log endless → Plain A endless → Settled A r log endless
+    → 0 < length log → Continues A log endless → Settled A r log endless
 
 -- the endless log of bit letters
 abbrev pub heard-along : (ℕ → Bits) → ℕ → Heard Verdict

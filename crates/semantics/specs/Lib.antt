@@ -3,6 +3,7 @@ pub mod Endless
 pub mod Equations
 pub mod Examples
 pub mod Folds
+pub mod Inward
 pub mod Later
 pub mod Marks
 pub mod Positions

@@ -1,4 +1,4 @@
-use Rattle.semantics.proofs.BitLogs.{bits-settle}
+use Rattle.semantics.proofs.BitLogs.{bits-settle, bits-two-way}
 use Rattle.semantics.proofs.Ground.{ground}
 use Rattle.semantics.proofs.Longer.{later}
 use Rattle.semantics.proofs.Rising.{floor-verdict-ceiling}
@@ -18,5 +18,6 @@ returns g c =
       settles = settles laws;
       sane = sane (g .S·Scale .algebra);
       bits = bits-settle;
+      bits-two-way = bits-two-way;
       examples = examples;
     }

@@ -1,0 +1,15 @@
+pub mod Along
+pub mod Blends
+pub mod Contexts
+pub mod Corners
+pub mod Driven
+pub mod Halves
+pub mod Lengths
+pub mod Picked
+pub mod Rows
+pub mod Rules
+pub mod Segments
+pub mod Stepping
+pub mod Sums
+pub mod Tables
+pub mod Walking

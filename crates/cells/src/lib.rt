@@ -1,0 +1,1 @@
+// Cells: a rule as a step from letter to letter.
