@@ -2,9 +2,15 @@ pub mod Along
 pub mod Blends
 pub mod Contexts
 pub mod Corners
+pub mod Counts
 pub mod Driven
+pub mod Ends
+pub mod Filling
 pub mod Halves
+pub mod Laying
 pub mod Lengths
+pub mod Listed
+pub mod Parts
 pub mod Picked
 pub mod Rows
 pub mod Rules

@@ -41,7 +41,7 @@ celled-count (either a b) inside = count-append (celled a inside) _ ∙ ap₂ _+
 celled-count (chain a b) inside = count-append (celled a true) _ ∙ ap₂ _+_ (celled-count a true) (celled-count b inside)
 celled-count (star a b) inside = count-append (celled a true) _ ∙ ap₂ _+_ (celled-count a true) (celled-count b inside)
 
-counted : (a : Segment) → cells-in a false ≡ test-cells a
+pub counted : (a : Segment) → cells-in a false ≡ test-cells a
 counted a = sym (ap count-set (with-cell-celled a) ∙ celled-count a false)
 
 -- the ending tests, where the last letter may end the match

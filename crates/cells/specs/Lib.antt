@@ -1,4 +1,8 @@
+pub mod Answers
+pub mod Lays
 pub mod Meaning
+pub mod Reading
+pub mod RowAt
 pub mod Rows
 pub mod Shape
 pub mod Step

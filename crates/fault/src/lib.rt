@@ -1,6 +1,7 @@
 // Refusals: what was refused, at which place and by which layer.
 ghost use mathlib.Core.Path.{_≡_};
-ghost use Rattle.fault.specs.Faults.{number-of, place-of};
+ghost use Rattle.fault.specs.Faults.{number-of, place-of, cell-number-of, cell-place-of, cell-layer-of};
+ghost use Rattle.fault.specs.declared.CellFault.the-variants as cell;
 ghost use Rattle.fault.specs.declared.Layer.the-variants.{Text};
 ghost use Rattle.fault.specs.declared.TextFault.the-variants.{NoMemory};
 use std::alloc::AllocError;
@@ -83,5 +84,61 @@ pub impl<T: Drop> From<Refused<T>> for TextFault as TextFaultFromRefused {
 
     fn from(_refused: Refused<T>) -> TextFault {
         TextFault::NoMemory
+    }
+}
+
+// Why the cells of a rule were not laid, with the refusal's number.
+#[derive(Clone, Copy, PartialEq, Eq, Debug)]
+pub enum CellCause {
+    // a ninth cell
+    Ninth = 6,
+}
+
+// What went wrong with laying the cells of a rule text.
+#[derive(Clone, Copy, PartialEq, Eq, Debug)]
+pub enum CellFault {
+    // The text is at fault.
+    Text(TextFault),
+    Refused(CellCause, usize),
+}
+
+impl CellFault {
+    // The refusal's number; none for want of memory.
+    pub fn number(&self) -> Option<u8>
+        ensures { λ r. ⌜ r ≡ cell-number-of (now (self .entry)) ⌝ }
+    {
+        match self {
+            CellFault::Text(fault) => fault.number(),
+            CellFault::Refused(cause, _) => Some(*cause as u8),
+        }
+    }
+
+    // The refusal's place; none for want of memory.
+    pub fn place(&self) -> Option<usize>
+        ensures { λ r. ⌜ r ≡ cell-place-of (now (self .entry)) ⌝ }
+    {
+        match self {
+            CellFault::Text(fault) => fault.place(),
+            CellFault::Refused(_, place) => Some(*place),
+        }
+    }
+
+    // The layer that refused.
+    pub fn layer(&self) -> Layer
+        ensures { λ r. ⌜ r ≡ cell-layer-of (now (self .entry)) ⌝ }
+    {
+        match self {
+            CellFault::Text(fault) => fault.layer(),
+            CellFault::Refused(_, _) => Layer::Cells,
+        }
+    }
+}
+
+// A text fault is carried whole by `?`.
+pub impl From<TextFault> for CellFault as CellFaultFromText {
+    ghost converts = { λ e r. r ≡ cell.Text e };
+
+    fn from(error: TextFault) -> CellFault {
+        CellFault::Text(error)
     }
 }

@@ -1,8 +1,10 @@
 // The cells of a rule in words, in the order of the text.
+use cells::lay::lay;
 use rule::Kind;
 use rule::Rule;
 use rule::Segment;
 use rule::Test;
+use std::alloc::Global;
 use std::io;
 
 // The letter of a kind; under an odd number of `!` that of its dual.
@@ -106,8 +108,23 @@ fn show_rule(rt: &LibcRuntime, rule: &Rule, odd: bool, number: usize) -> io::Res
     }
 }
 
-// Each cell of a rule on a line of its own.
-pub fn show_cells(rt: &LibcRuntime, rule: &Rule) -> io::Result<()> {
+// How many cells a rule text has, or the refusal of a ninth.
+fn show_count(rt: &LibcRuntime, heap: Global, text: &[u8]) -> io::Result<()> {
+    match lay(heap, text) {
+        Ok(laid) => {
+            let count = laid.count;
+            println!(rt, "{count} cells")
+        }
+        Err(fault) => {
+            let number = fault.number().unwrap_or(0);
+            println!(rt, "! {number}")
+        }
+    }
+}
+
+// The number of cells of a rule, and each on a line of its own.
+pub fn show_cells(rt: &LibcRuntime, heap: Global, text: &[u8], rule: &Rule) -> io::Result<()> {
+    show_count(rt, heap, text)?;
     println!(rt, "0: the whole rule")?;
     let _ = show_rule(rt, rule, false, 1)?;
     Ok(())

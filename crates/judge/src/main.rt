@@ -37,7 +37,7 @@ fn take_rule(rt: &LibcRuntime, run: Run, line: &Line) -> io::Result<Stage> {
     match read_rule(run.heap, line.bytes()) {
         Ok(rule) => {
             if run.cells {
-                show_cells(rt, &rule)?;
+                show_cells(rt, run.heap, line.bytes(), &rule)?;
             }
             Ok(Stage::Judging(rule))
         }
