@@ -75,7 +75,7 @@ pub impl From<AllocError> for TextFault as TextFaultFromAlloc {
     ghost converts = { λ _ r. r ≡ NoMemory };
 
     fn from(_error: AllocError) -> TextFault {
-        TextFault::NoMemory
+        TextFault::NoMemory // none at all
     }
 }
 
@@ -83,7 +83,7 @@ pub impl<T: Drop> From<Refused<T>> for TextFault as TextFaultFromRefused {
     ghost converts = { λ _ r. r ≡ NoMemory };
 
     fn from(_refused: Refused<T>) -> TextFault {
-        TextFault::NoMemory
+        TextFault::NoMemory // none for the value
     }
 }
 

@@ -123,7 +123,12 @@ fn show_count(rt: &LibcRuntime, heap: Global, text: &[u8]) -> io::Result<()> {
 }
 
 // The number of cells of a rule, and each on a line of its own.
-pub fn show_cells(rt: &LibcRuntime, heap: Global, text: &[u8], rule: &Rule) -> io::Result<()> {
+pub(crate) fn show_cells(
+    rt: &LibcRuntime,
+    heap: Global,
+    text: &[u8],
+    rule: &Rule,
+) -> io::Result<()> {
     show_count(rt, heap, text)?;
     println!(rt, "0: the whole rule")?;
     let _ = show_rule(rt, rule, false, 1)?;
