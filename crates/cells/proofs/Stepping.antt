@@ -49,12 +49,18 @@ module _ {S : Type 0} {A : Algebra S} (L : Lawful A) where
       ap₂ (λ v (cells : List S). step A v (λ k. getD cells k (A .worst)) r) (fun-ext (λ t. sym (same t 0) ∙ ap (value t) here)) rest
       ∙ cells-step L value n mark whole r p i (omega arith)
 
+  agrees : (marks : Marks S) (mark : Kind → S) → ((odd : Bool) (k : Kind) → mark (turned-kind odd k) ≡ turned A odd (marks odd k))
+      → (r : Rule) (log : List (Heard S)) (i : ℕ) → i < length log
+      → worth-on A marks r log i ≡ worth A (value-on A log) (length log) (λ odd kind. mark kind) false (inward false r) i
+  agrees marks mark at-marks r log i h =
+      sym (agree L (value-on A log) (length log) marks mark at-marks (λ t i. test-flipped (t .channel) (t .opposite) _) false r i h)
+
   worth-is : (marks : Marks S) (mark : Kind → S) (whole : S) → ((odd : Bool) (k : Kind) → mark (turned-kind odd k) ≡ turned A odd (marks odd k))
       → (r : Rule) (log : List (Heard S)) → 0 < length log
       → worth-on A marks r log 0 ≡ getD (steps A (inward false r) log (end-marks whole mark (inward false r))) 0 (A .worst)
   worth-is marks mark whole at-marks r log h =
       let value : Test → ℕ → S = value-on A log in
-      sym (agree L value (length log) marks mark at-marks (λ t i. test-flipped (t .channel) (t .opposite) _) false r 0 h)
+      agrees marks mark at-marks r log 0 h
       ∙ (sym (ended-now A value (length log) (worth A value (length log) (λ odd kind. mark kind) false (inward false r)) whole 0 h)
       ∙ ap (λ cells. getD cells 0 (A .worst)) (sym (steps-are value (length log) mark whole (inward false r) (driven false r) log 0 (omega arith)
       (λ t k. let here : 0 + k ≡ k = omega arith in ap (value t) here))))
@@ -79,4 +85,7 @@ module _ {S : Type 0} {A : Algebra S} (L : Lawful A) where
     verdict-is = worth-is (verdict-marks A) (verdict-marks A false) (A .pending) verdict-turned r log h;
     floor-is = worth-is (floor-marks A) (λ k. A .worst) (A .worst) floor-turned r log h;
     ceiling-is = worth-is (ceiling-marks A) (λ k. A .best) (A .best) ceiling-turned r log h;
+    verdict-at = agrees (verdict-marks A) (verdict-marks A false) verdict-turned r log;
+    floor-at = agrees (floor-marks A) (λ k. A .worst) floor-turned r log;
+    ceiling-at = agrees (ceiling-marks A) (λ k. A .best) ceiling-turned r log;
   }

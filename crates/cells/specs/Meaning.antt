@@ -16,7 +16,7 @@ use Rattle.scale.specs.Laws.{Algebra}
 use Rattle.semantics.specs.Equations.{onward}
 use Rattle.semantics.specs.Marks.{Marks, verdict-marks, floor-marks, ceiling-marks}
 use Rattle.semantics.specs.Positions.{every-match, ended, worth}
-use Rattle.semantics.specs.Reports.{value-on, test-on, verdict, floor, ceiling}
+use Rattle.semantics.specs.Reports.{value-on, test-on, worth-on, verdict, floor, ceiling}
 use Rattle.std.specs.declared.option.Option.{Option}
 use Rattle.std.specs.declared.option.Option.the-variants.{Some, None}
 
@@ -89,11 +89,18 @@ pub record StepLaws {S : Type 0} (A : Algebra S) : Type 0 where
       → cells-mean A value n mark whole r n ≡ end-marks whole mark r
   pub driven : (odd : Bool) (r : Rule) → Positive (inward odd r)
 
--- verdict, floor and ceiling of a log are cell 0 of its letters' steps at the marks, at all worst and at all best
+-- verdict, floor and ceiling of a log are cell 0 of its letters' steps at the marks, at all worst and at all best; and at
+-- every letter what cell 0 stands for is V(rule, i) of the rule itself, before its `!` is driven inward
 pub record Stepped {S : Type 0} (A : Algebra S) (r : Rule) (log : List (Heard S)) : Type 0 where
   pub verdict-is : verdict A r log ≡ getD (steps A (inward false r) log (end-marks (A .pending) (verdict-marks A false) (inward false r))) 0 (A .worst)
   pub floor-is : floor A r log ≡ getD (steps A (inward false r) log (end-marks (A .worst) (λ k. A .worst) (inward false r))) 0 (A .worst)
   pub ceiling-is : ceiling A r log ≡ getD (steps A (inward false r) log (end-marks (A .best) (λ k. A .best) (inward false r))) 0 (A .worst)
+  pub verdict-at : (i : ℕ) → i < length log
+      → worth-on A (verdict-marks A) r log i ≡ worth A (value-on A log) (length log) (λ odd kind. verdict-marks A false kind) false (inward false r) i
+  pub floor-at : (i : ℕ) → i < length log
+      → worth-on A (floor-marks A) r log i ≡ worth A (value-on A log) (length log) (λ odd kind. A .worst) false (inward false r) i
+  pub ceiling-at : (i : ℕ) → i < length log
+      → worth-on A (ceiling-marks A) r log i ≡ worth A (value-on A log) (length log) (λ odd kind. A .best) false (inward false r) i
 
 abbrev pub Stepping : {S : Type 0} → Algebra S → Type 0
 Stepping {S} A = (r : Rule) (log : List (Heard S)) → 0 < length log → Stepped A r log
