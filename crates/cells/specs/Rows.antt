@@ -1,4 +1,5 @@
--- Corners, rows and tables: how the cells before a volume depend on the cells after it. Assumes nothing.
+-- Corners, rows and tables: how the cells before a volume depend on the cells after it. A volume is a stretch of a log
+-- whose beginning need not be known. Assumes nothing.
 use mathlib.Core.Bool.{Bool, true, false, cond}
 use mathlib.Core.Path.{_≡_}
 use Prim.Native.Nat.{ℕ, zero, suc, _+_, _/_, _%_, _^_, _<_}

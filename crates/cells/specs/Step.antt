@@ -1,4 +1,5 @@
--- The cells of a rule, and each cell before a letter from the cells after it. Assumes nothing.
+-- The cells of a rule, and each cell before a letter from the cells after it. A cell is a value that has to be known after
+-- a letter to know the rule before it. Assumes nothing.
 use mathlib.Core.Bool.{Bool, true, false, cond}
 use mathlib.Core.List.{List, [], _∷_, _++_, map}
 use Prim.Native.Nat.{ℕ, zero, suc, _+_}
