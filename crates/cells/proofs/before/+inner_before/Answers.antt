@@ -25,110 +25,110 @@ returns-in-Negated g t c =
 pub returns-then-cell-base : goal.returns-then-cell-base
 returns-then-cell-base g t c =
     let A = g.S.Scale.algebra in
-    let n : c.segment-cells.result ≡ cells_in (segment_of c.in-Next.segment.value) false =
-    c.segment-cells.ensures.counted ∙ ap (λ x. cells_in (segment_of x) false) c.deref-in-Next.ensures in
+    let n : c.segment_cells.result ≡ cells_in (segment_of c.in-Next.segment.value) false =
+    c.segment_cells.ensures.counted ∙ ap (λ x. cells_in (segment_of x) false) c.deref-in-Next.ensures in
     let T = next_cells (walked g.met.S.Scale.lawful) (on_letter A (g.L.Letter.heard c.args.letter.now)) (cells_of A c.args.after.now)
     c.args.odd c.in-Next.kind (segment_of c.in-Next.segment.value) (rule_of c.in-Next.inner.value) (rule_of c.args.rule.now)
-    c.args.base c.args.cell (c.args.base + 1 + c.segment-cells.result) (ap rule_of c.in-Next.is) (omega arith) in
+    c.args.base c.args.cell (c.args.base + 1 + c.segment_cells.result) (ap rule_of c.in-Next.is) (omega arith) in
     let e = T.at_operator (omega arith) in
     search rules
 
 pub returns-then-cell-rest : goal.returns-then-cell-rest
 returns-then-cell-rest g t c =
     let A = g.S.Scale.algebra in
-    let n : c.segment-cells.result ≡ cells_in (segment_of c.in-Next.segment.value) false =
-    c.segment-cells.ensures.counted ∙ ap (λ x. cells_in (segment_of x) false) c.deref-in-Next.ensures in
+    let n : c.segment_cells.result ≡ cells_in (segment_of c.in-Next.segment.value) false =
+    c.segment_cells.ensures.counted ∙ ap (λ x. cells_in (segment_of x) false) c.deref-in-Next.ensures in
     let T = next_cells (walked g.met.S.Scale.lawful) (on_letter A (g.L.Letter.heard c.args.letter.now)) (cells_of A c.args.after.now)
     c.args.odd c.in-Next.kind (segment_of c.in-Next.segment.value) (rule_of c.in-Next.inner.value) (rule_of c.args.rule.now)
-    c.args.base c.args.cell (c.args.base + 1 + c.segment-cells.result) (ap rule_of c.in-Next.is) (omega arith) in
+    c.args.base c.args.cell (c.args.base + 1 + c.segment_cells.result) (ap rule_of c.in-Next.is) (omega arith) in
     let e = T.in_tests (omega arith) (omega arith) in
     search rules
 
 pub returns-else-cell-rest : goal.returns-else-cell-rest
 returns-else-cell-rest g t c =
     let A = g.S.Scale.algebra in
-    let n : c.segment-cells.result ≡ cells_in (segment_of c.in-Next.segment.value) false =
-    c.segment-cells.ensures.counted ∙ ap (λ x. cells_in (segment_of x) false) c.deref-in-Next.ensures in
+    let n : c.segment_cells.result ≡ cells_in (segment_of c.in-Next.segment.value) false =
+    c.segment_cells.ensures.counted ∙ ap (λ x. cells_in (segment_of x) false) c.deref-in-Next.ensures in
     let T = next_cells (walked g.met.S.Scale.lawful) (on_letter A (g.L.Letter.heard c.args.letter.now)) (cells_of A c.args.after.now)
     c.args.odd c.in-Next.kind (segment_of c.in-Next.segment.value) (rule_of c.in-Next.inner.value) (rule_of c.args.rule.now)
-    c.args.base c.args.cell (c.args.base + 1 + c.segment-cells.result) (ap rule_of c.in-Next.is) (omega arith) in
+    c.args.base c.args.cell (c.args.base + 1 + c.segment_cells.result) (ap rule_of c.in-Next.is) (omega arith) in
     let e = T.in_rest (omega arith) in
     search rules
 
 pub returns-then-cell-base-2 : goal.returns-then-cell-base-2
 returns-then-cell-base-2 g t c =
     let A = g.S.Scale.algebra in
-    let m : c.rule-cells.result ≡ inner_cells (rule_of c.in-Until.hold.value) =
-    c.rule-cells.ensures.counted ∙ ap (λ x. inner_cells (rule_of x)) c.deref-in-Until.ensures in
-    let n : c.segment-cells-in-Until.result ≡ cells_in (segment_of c.in-Until.segment.value) false =
-    c.segment-cells-in-Until.ensures.counted ∙ ap (λ x. cells_in (segment_of x) false) c.deref-in-Until-2.ensures in
+    let m : c.rule_cells.result ≡ inner_cells (rule_of c.in-Until.hold.value) =
+    c.rule_cells.ensures.counted ∙ ap (λ x. inner_cells (rule_of x)) c.deref-in-Until.ensures in
+    let n : c.segment_cells-in-Until.result ≡ cells_in (segment_of c.in-Until.segment.value) false =
+    c.segment_cells-in-Until.ensures.counted ∙ ap (λ x. cells_in (segment_of x) false) c.deref-in-Until-2.ensures in
     let T = turn_cells (walked g.met.S.Scale.lawful) (on_letter A (g.L.Letter.heard c.args.letter.now)) (cells_of A c.args.after.now)
     c.args.odd c.in-Until.kind (rule_of c.in-Until.hold.value) (segment_of c.in-Until.segment.value) (rule_of c.in-Until.goal.value)
-    (rule_of c.args.rule.now) c.args.base c.args.cell (c.args.base + 1 + c.rule-cells.result)
-    (c.args.base + 1 + c.rule-cells.result + c.segment-cells-in-Until.result) (⊎_map (ap rule_of) (ap rule_of) c.in-Until.is) (omega arith) (omega arith) in
+    (rule_of c.args.rule.now) c.args.base c.args.cell (c.args.base + 1 + c.rule_cells.result)
+    (c.args.base + 1 + c.rule_cells.result + c.segment_cells-in-Until.result) (⊎_map (ap rule_of) (ap rule_of) c.in-Until.is) (omega arith) (omega arith) in
     let e = T.at_operator (omega arith) in
     search rules
 
 pub returns-then-cell-tests : goal.returns-then-cell-tests
 returns-then-cell-tests g t c =
     let A = g.S.Scale.algebra in
-    let m : c.rule-cells.result ≡ inner_cells (rule_of c.in-Until.hold.value) =
-    c.rule-cells.ensures.counted ∙ ap (λ x. inner_cells (rule_of x)) c.deref-in-Until.ensures in
-    let n : c.segment-cells-in-Until.result ≡ cells_in (segment_of c.in-Until.segment.value) false =
-    c.segment-cells-in-Until.ensures.counted ∙ ap (λ x. cells_in (segment_of x) false) c.deref-in-Until-2.ensures in
+    let m : c.rule_cells.result ≡ inner_cells (rule_of c.in-Until.hold.value) =
+    c.rule_cells.ensures.counted ∙ ap (λ x. inner_cells (rule_of x)) c.deref-in-Until.ensures in
+    let n : c.segment_cells-in-Until.result ≡ cells_in (segment_of c.in-Until.segment.value) false =
+    c.segment_cells-in-Until.ensures.counted ∙ ap (λ x. cells_in (segment_of x) false) c.deref-in-Until-2.ensures in
     let T = turn_cells (walked g.met.S.Scale.lawful) (on_letter A (g.L.Letter.heard c.args.letter.now)) (cells_of A c.args.after.now)
     c.args.odd c.in-Until.kind (rule_of c.in-Until.hold.value) (segment_of c.in-Until.segment.value) (rule_of c.in-Until.goal.value)
-    (rule_of c.args.rule.now) c.args.base c.args.cell (c.args.base + 1 + c.rule-cells.result)
-    (c.args.base + 1 + c.rule-cells.result + c.segment-cells-in-Until.result) (⊎_map (ap rule_of) (ap rule_of) c.in-Until.is) (omega arith) (omega arith) in
+    (rule_of c.args.rule.now) c.args.base c.args.cell (c.args.base + 1 + c.rule_cells.result)
+    (c.args.base + 1 + c.rule_cells.result + c.segment_cells-in-Until.result) (⊎_map (ap rule_of) (ap rule_of) c.in-Until.is) (omega arith) (omega arith) in
     let e = T.in_hold (omega arith) (omega arith) in
     search rules
 
 pub returns-then-cell-rest-2 : goal.returns-then-cell-rest-2
 returns-then-cell-rest-2 g t c =
     let A = g.S.Scale.algebra in
-    let m : c.rule-cells.result ≡ inner_cells (rule_of c.in-Until.hold.value) =
-    c.rule-cells.ensures.counted ∙ ap (λ x. inner_cells (rule_of x)) c.deref-in-Until.ensures in
-    let n : c.segment-cells-in-Until.result ≡ cells_in (segment_of c.in-Until.segment.value) false =
-    c.segment-cells-in-Until.ensures.counted ∙ ap (λ x. cells_in (segment_of x) false) c.deref-in-Until-2.ensures in
+    let m : c.rule_cells.result ≡ inner_cells (rule_of c.in-Until.hold.value) =
+    c.rule_cells.ensures.counted ∙ ap (λ x. inner_cells (rule_of x)) c.deref-in-Until.ensures in
+    let n : c.segment_cells-in-Until.result ≡ cells_in (segment_of c.in-Until.segment.value) false =
+    c.segment_cells-in-Until.ensures.counted ∙ ap (λ x. cells_in (segment_of x) false) c.deref-in-Until-2.ensures in
     let T = turn_cells (walked g.met.S.Scale.lawful) (on_letter A (g.L.Letter.heard c.args.letter.now)) (cells_of A c.args.after.now)
     c.args.odd c.in-Until.kind (rule_of c.in-Until.hold.value) (segment_of c.in-Until.segment.value) (rule_of c.in-Until.goal.value)
-    (rule_of c.args.rule.now) c.args.base c.args.cell (c.args.base + 1 + c.rule-cells.result)
-    (c.args.base + 1 + c.rule-cells.result + c.segment-cells-in-Until.result) (⊎_map (ap rule_of) (ap rule_of) c.in-Until.is) (omega arith) (omega arith) in
+    (rule_of c.args.rule.now) c.args.base c.args.cell (c.args.base + 1 + c.rule_cells.result)
+    (c.args.base + 1 + c.rule_cells.result + c.segment_cells-in-Until.result) (⊎_map (ap rule_of) (ap rule_of) c.in-Until.is) (omega arith) (omega arith) in
     let e = T.in_tests (omega arith) (omega arith) in
     search rules
 
 pub returns-else-cell-rest-2 : goal.returns-else-cell-rest-2
 returns-else-cell-rest-2 g t c =
     let A = g.S.Scale.algebra in
-    let m : c.rule-cells.result ≡ inner_cells (rule_of c.in-Until.hold.value) =
-    c.rule-cells.ensures.counted ∙ ap (λ x. inner_cells (rule_of x)) c.deref-in-Until.ensures in
-    let n : c.segment-cells-in-Until.result ≡ cells_in (segment_of c.in-Until.segment.value) false =
-    c.segment-cells-in-Until.ensures.counted ∙ ap (λ x. cells_in (segment_of x) false) c.deref-in-Until-2.ensures in
+    let m : c.rule_cells.result ≡ inner_cells (rule_of c.in-Until.hold.value) =
+    c.rule_cells.ensures.counted ∙ ap (λ x. inner_cells (rule_of x)) c.deref-in-Until.ensures in
+    let n : c.segment_cells-in-Until.result ≡ cells_in (segment_of c.in-Until.segment.value) false =
+    c.segment_cells-in-Until.ensures.counted ∙ ap (λ x. cells_in (segment_of x) false) c.deref-in-Until-2.ensures in
     let T = turn_cells (walked g.met.S.Scale.lawful) (on_letter A (g.L.Letter.heard c.args.letter.now)) (cells_of A c.args.after.now)
     c.args.odd c.in-Until.kind (rule_of c.in-Until.hold.value) (segment_of c.in-Until.segment.value) (rule_of c.in-Until.goal.value)
-    (rule_of c.args.rule.now) c.args.base c.args.cell (c.args.base + 1 + c.rule-cells.result)
-    (c.args.base + 1 + c.rule-cells.result + c.segment-cells-in-Until.result) (⊎_map (ap rule_of) (ap rule_of) c.in-Until.is) (omega arith) (omega arith) in
+    (rule_of c.args.rule.now) c.args.base c.args.cell (c.args.base + 1 + c.rule_cells.result)
+    (c.args.base + 1 + c.rule_cells.result + c.segment_cells-in-Until.result) (⊎_map (ap rule_of) (ap rule_of) c.in-Until.is) (omega arith) (omega arith) in
     let e = T.in_goal (omega arith) in
     search rules
 
 pub returns-then-cell-middle : goal.returns-then-cell-middle
 returns-then-cell-middle g t c =
     let A = g.S.Scale.algebra in
-    let m : c.rule-cells-in-Both.result ≡ inner_cells (rule_of c.in-Both.first.value) =
-    c.rule-cells-in-Both.ensures.counted ∙ ap (λ x. inner_cells (rule_of x)) c.deref-in-Both.ensures in
+    let m : c.rule_cells-in-Both.result ≡ inner_cells (rule_of c.in-Both.first.value) =
+    c.rule_cells-in-Both.ensures.counted ∙ ap (λ x. inner_cells (rule_of x)) c.deref-in-Both.ensures in
     let T = pair_cells (walked g.met.S.Scale.lawful) (on_letter A (g.L.Letter.heard c.args.letter.now)) (cells_of A c.args.after.now)
     c.args.odd (rule_of c.in-Both.first.value) (rule_of c.in-Both.second.value) (rule_of c.args.rule.now)
-    c.args.base c.args.cell (c.args.base + c.rule-cells-in-Both.result) (⊎_map (ap rule_of) (ap rule_of) c.in-Both.is) (omega arith) in
+    c.args.base c.args.cell (c.args.base + c.rule_cells-in-Both.result) (⊎_map (ap rule_of) (ap rule_of) c.in-Both.is) (omega arith) in
     let e = T.in_first (omega arith) (omega arith) in
     search rules
 
 pub returns-else-cell-middle : goal.returns-else-cell-middle
 returns-else-cell-middle g t c =
     let A = g.S.Scale.algebra in
-    let m : c.rule-cells-in-Both.result ≡ inner_cells (rule_of c.in-Both.first.value) =
-    c.rule-cells-in-Both.ensures.counted ∙ ap (λ x. inner_cells (rule_of x)) c.deref-in-Both.ensures in
+    let m : c.rule_cells-in-Both.result ≡ inner_cells (rule_of c.in-Both.first.value) =
+    c.rule_cells-in-Both.ensures.counted ∙ ap (λ x. inner_cells (rule_of x)) c.deref-in-Both.ensures in
     let T = pair_cells (walked g.met.S.Scale.lawful) (on_letter A (g.L.Letter.heard c.args.letter.now)) (cells_of A c.args.after.now)
     c.args.odd (rule_of c.in-Both.first.value) (rule_of c.in-Both.second.value) (rule_of c.args.rule.now)
-    c.args.base c.args.cell (c.args.base + c.rule-cells-in-Both.result) (⊎_map (ap rule_of) (ap rule_of) c.in-Both.is) (omega arith) in
+    c.args.base c.args.cell (c.args.base + c.rule_cells-in-Both.result) (⊎_map (ap rule_of) (ap rule_of) c.in-Both.is) (omega arith) in
     let e = T.in_second (omega arith) in
     search rules

@@ -4,4 +4,4 @@ use Rattle.scale.proofs.VerdictLaws.{verdicts_lawful}
 use Rattle.cells.proofs.lay.lay.Goals as goal
 
 pub returns : goal.returns
-returns c = record { answer = c.laid-of.ensures; verdicts = step_laws verdicts_lawful; margins = step_laws margins_lawful }
+returns c = record { answer = c.laid_of.ensures; verdicts = step_laws verdicts_lawful; margins = step_laws margins_lawful }

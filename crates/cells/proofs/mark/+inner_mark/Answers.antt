@@ -22,32 +22,32 @@ returns-in-Negated g t c =
 pub returns-then-cell-cells : goal.returns-then-cell-cells
 returns-then-cell-cells g t c =
     let A = g.S.Scale.algebra in
-    let n : c.segment-cells-cells.result ≡ cells_in (segment_of c.in-Next.segment.value) false =
-    c.segment-cells-cells.ensures.counted ∙ ap (λ x. cells_in (segment_of x) false) c.deref-in-Next.ensures in
+    let n : c.segment_cells-cells.result ≡ cells_in (segment_of c.in-Next.segment.value) false =
+    c.segment_cells-cells.ensures.counted ∙ ap (λ x. cells_in (segment_of x) false) c.deref-in-Next.ensures in
     let T = next_ends (mark_of A) A.worst c.args.odd c.in-Next.kind (segment_of c.in-Next.segment.value) (rule_of c.in-Next.inner.value) (rule_of c.args.rule.now)
-    c.args.cell (1 + c.segment-cells-cells.result) (ap rule_of c.in-Next.is) (omega arith) in
+    c.args.cell (1 + c.segment_cells-cells.result) (ap rule_of c.in-Next.is) (omega arith) in
     let e = T.in_own (omega arith) in
     search rules
 
 pub returns-else-cell-cells : goal.returns-else-cell-cells
 returns-else-cell-cells g t c =
     let A = g.S.Scale.algebra in
-    let n : c.segment-cells-cells.result ≡ cells_in (segment_of c.in-Next.segment.value) false =
-    c.segment-cells-cells.ensures.counted ∙ ap (λ x. cells_in (segment_of x) false) c.deref-in-Next.ensures in
+    let n : c.segment_cells-cells.result ≡ cells_in (segment_of c.in-Next.segment.value) false =
+    c.segment_cells-cells.ensures.counted ∙ ap (λ x. cells_in (segment_of x) false) c.deref-in-Next.ensures in
     let T = next_ends (mark_of A) A.worst c.args.odd c.in-Next.kind (segment_of c.in-Next.segment.value) (rule_of c.in-Next.inner.value) (rule_of c.args.rule.now)
-    c.args.cell (1 + c.segment-cells-cells.result) (ap rule_of c.in-Next.is) (omega arith) in
+    c.args.cell (1 + c.segment_cells-cells.result) (ap rule_of c.in-Next.is) (omega arith) in
     let e = T.in_rest (omega arith) in
     search rules
 
 pub returns-then-cell-eq0 : goal.returns-then-cell-eq0
 returns-then-cell-eq0 g t c =
     let A = g.S.Scale.algebra in
-    let m : c.rule-cells-tests.result ≡ inner_cells (rule_of c.in-Until.hold.value) =
-    c.rule-cells-tests.ensures.counted ∙ ap (λ x. inner_cells (rule_of x)) c.deref-in-Until.ensures in
-    let n : c.segment-cells.result ≡ cells_in (segment_of c.in-Until.segment.value) false =
-    c.segment-cells.ensures.counted ∙ ap (λ x. cells_in (segment_of x) false) c.deref-in-Until-2.ensures in
+    let m : c.rule_cells-tests.result ≡ inner_cells (rule_of c.in-Until.hold.value) =
+    c.rule_cells-tests.ensures.counted ∙ ap (λ x. inner_cells (rule_of x)) c.deref-in-Until.ensures in
+    let n : c.segment_cells.result ≡ cells_in (segment_of c.in-Until.segment.value) false =
+    c.segment_cells.ensures.counted ∙ ap (λ x. cells_in (segment_of x) false) c.deref-in-Until-2.ensures in
     let T = turn_ends (mark_of A) A.worst c.args.odd c.in-Until.kind (rule_of c.in-Until.hold.value) (segment_of c.in-Until.segment.value) (rule_of c.in-Until.goal.value)
-    (rule_of c.args.rule.now) c.args.cell (1 + c.rule-cells-tests.result) (1 + c.rule-cells-tests.result + c.segment-cells.result)
+    (rule_of c.args.rule.now) c.args.cell (1 + c.rule_cells-tests.result) (1 + c.rule_cells-tests.result + c.segment_cells.result)
     (⊎_map (ap rule_of) (ap rule_of) c.in-Until.is) (omega arith) (omega arith) in
     let e = T.at_operator (omega arith) in
     search rules
@@ -55,12 +55,12 @@ returns-then-cell-eq0 g t c =
 pub returns-then-cell-tests : goal.returns-then-cell-tests
 returns-then-cell-tests g t c =
     let A = g.S.Scale.algebra in
-    let m : c.rule-cells-tests.result ≡ inner_cells (rule_of c.in-Until.hold.value) =
-    c.rule-cells-tests.ensures.counted ∙ ap (λ x. inner_cells (rule_of x)) c.deref-in-Until.ensures in
-    let n : c.segment-cells.result ≡ cells_in (segment_of c.in-Until.segment.value) false =
-    c.segment-cells.ensures.counted ∙ ap (λ x. cells_in (segment_of x) false) c.deref-in-Until-2.ensures in
+    let m : c.rule_cells-tests.result ≡ inner_cells (rule_of c.in-Until.hold.value) =
+    c.rule_cells-tests.ensures.counted ∙ ap (λ x. inner_cells (rule_of x)) c.deref-in-Until.ensures in
+    let n : c.segment_cells.result ≡ cells_in (segment_of c.in-Until.segment.value) false =
+    c.segment_cells.ensures.counted ∙ ap (λ x. cells_in (segment_of x) false) c.deref-in-Until-2.ensures in
     let T = turn_ends (mark_of A) A.worst c.args.odd c.in-Until.kind (rule_of c.in-Until.hold.value) (segment_of c.in-Until.segment.value) (rule_of c.in-Until.goal.value)
-    (rule_of c.args.rule.now) c.args.cell (1 + c.rule-cells-tests.result) (1 + c.rule-cells-tests.result + c.segment-cells.result)
+    (rule_of c.args.rule.now) c.args.cell (1 + c.rule_cells-tests.result) (1 + c.rule_cells-tests.result + c.segment_cells.result)
     (⊎_map (ap rule_of) (ap rule_of) c.in-Until.is) (omega arith) (omega arith) in
     let e = T.in_hold (omega arith) (omega arith) in
     search rules
@@ -68,12 +68,12 @@ returns-then-cell-tests g t c =
 pub returns-then-cell-rest : goal.returns-then-cell-rest
 returns-then-cell-rest g t c =
     let A = g.S.Scale.algebra in
-    let m : c.rule-cells-tests.result ≡ inner_cells (rule_of c.in-Until.hold.value) =
-    c.rule-cells-tests.ensures.counted ∙ ap (λ x. inner_cells (rule_of x)) c.deref-in-Until.ensures in
-    let n : c.segment-cells.result ≡ cells_in (segment_of c.in-Until.segment.value) false =
-    c.segment-cells.ensures.counted ∙ ap (λ x. cells_in (segment_of x) false) c.deref-in-Until-2.ensures in
+    let m : c.rule_cells-tests.result ≡ inner_cells (rule_of c.in-Until.hold.value) =
+    c.rule_cells-tests.ensures.counted ∙ ap (λ x. inner_cells (rule_of x)) c.deref-in-Until.ensures in
+    let n : c.segment_cells.result ≡ cells_in (segment_of c.in-Until.segment.value) false =
+    c.segment_cells.ensures.counted ∙ ap (λ x. cells_in (segment_of x) false) c.deref-in-Until-2.ensures in
     let T = turn_ends (mark_of A) A.worst c.args.odd c.in-Until.kind (rule_of c.in-Until.hold.value) (segment_of c.in-Until.segment.value) (rule_of c.in-Until.goal.value)
-    (rule_of c.args.rule.now) c.args.cell (1 + c.rule-cells-tests.result) (1 + c.rule-cells-tests.result + c.segment-cells.result)
+    (rule_of c.args.rule.now) c.args.cell (1 + c.rule_cells-tests.result) (1 + c.rule_cells-tests.result + c.segment_cells.result)
     (⊎_map (ap rule_of) (ap rule_of) c.in-Until.is) (omega arith) (omega arith) in
     let e = T.in_tests (omega arith) (omega arith) in
     search rules
@@ -81,12 +81,12 @@ returns-then-cell-rest g t c =
 pub returns-else-cell-rest : goal.returns-else-cell-rest
 returns-else-cell-rest g t c =
     let A = g.S.Scale.algebra in
-    let m : c.rule-cells-tests.result ≡ inner_cells (rule_of c.in-Until.hold.value) =
-    c.rule-cells-tests.ensures.counted ∙ ap (λ x. inner_cells (rule_of x)) c.deref-in-Until.ensures in
-    let n : c.segment-cells.result ≡ cells_in (segment_of c.in-Until.segment.value) false =
-    c.segment-cells.ensures.counted ∙ ap (λ x. cells_in (segment_of x) false) c.deref-in-Until-2.ensures in
+    let m : c.rule_cells-tests.result ≡ inner_cells (rule_of c.in-Until.hold.value) =
+    c.rule_cells-tests.ensures.counted ∙ ap (λ x. inner_cells (rule_of x)) c.deref-in-Until.ensures in
+    let n : c.segment_cells.result ≡ cells_in (segment_of c.in-Until.segment.value) false =
+    c.segment_cells.ensures.counted ∙ ap (λ x. cells_in (segment_of x) false) c.deref-in-Until-2.ensures in
     let T = turn_ends (mark_of A) A.worst c.args.odd c.in-Until.kind (rule_of c.in-Until.hold.value) (segment_of c.in-Until.segment.value) (rule_of c.in-Until.goal.value)
-    (rule_of c.args.rule.now) c.args.cell (1 + c.rule-cells-tests.result) (1 + c.rule-cells-tests.result + c.segment-cells.result)
+    (rule_of c.args.rule.now) c.args.cell (1 + c.rule_cells-tests.result) (1 + c.rule_cells-tests.result + c.segment_cells.result)
     (⊎_map (ap rule_of) (ap rule_of) c.in-Until.is) (omega arith) (omega arith) in
     let e = T.in_goal (omega arith) in
     search rules
@@ -94,19 +94,19 @@ returns-else-cell-rest g t c =
 pub returns-then-cell-cells-2 : goal.returns-then-cell-cells-2
 returns-then-cell-cells-2 g t c =
     let A = g.S.Scale.algebra in
-    let m : c.rule-cells-cells.result ≡ inner_cells (rule_of c.in-Both.first.value) =
-    c.rule-cells-cells.ensures.counted ∙ ap (λ x. inner_cells (rule_of x)) c.deref-in-Both.ensures in
+    let m : c.rule_cells-cells.result ≡ inner_cells (rule_of c.in-Both.first.value) =
+    c.rule_cells-cells.ensures.counted ∙ ap (λ x. inner_cells (rule_of x)) c.deref-in-Both.ensures in
     let T = pair_ends (mark_of A) A.worst c.args.odd (rule_of c.in-Both.first.value) (rule_of c.in-Both.second.value) (rule_of c.args.rule.now)
-    c.args.cell c.rule-cells-cells.result (⊎_map (ap rule_of) (ap rule_of) c.in-Both.is) m in
+    c.args.cell c.rule_cells-cells.result (⊎_map (ap rule_of) (ap rule_of) c.in-Both.is) m in
     let e = T.in_first (omega arith) in
     search rules
 
 pub returns-else-cell-cells-2 : goal.returns-else-cell-cells-2
 returns-else-cell-cells-2 g t c =
     let A = g.S.Scale.algebra in
-    let m : c.rule-cells-cells.result ≡ inner_cells (rule_of c.in-Both.first.value) =
-    c.rule-cells-cells.ensures.counted ∙ ap (λ x. inner_cells (rule_of x)) c.deref-in-Both.ensures in
+    let m : c.rule_cells-cells.result ≡ inner_cells (rule_of c.in-Both.first.value) =
+    c.rule_cells-cells.ensures.counted ∙ ap (λ x. inner_cells (rule_of x)) c.deref-in-Both.ensures in
     let T = pair_ends (mark_of A) A.worst c.args.odd (rule_of c.in-Both.first.value) (rule_of c.in-Both.second.value) (rule_of c.args.rule.now)
-    c.args.cell c.rule-cells-cells.result (⊎_map (ap rule_of) (ap rule_of) c.in-Both.is) m in
+    c.args.cell c.rule_cells-cells.result (⊎_map (ap rule_of) (ap rule_of) c.in-Both.is) m in
     let e = T.in_second (omega arith) in
     search rules

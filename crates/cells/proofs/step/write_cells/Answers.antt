@@ -13,8 +13,8 @@ loop-cell-preserved g c =
     let long : length cells ≡ c.args.laid.now.count =
     step_length A (on_letter A (g.L.Letter.heard c.args.letter.now)) (cells_of A c.args.after.now)
     (inward false (rule_of c.args.laid.now.rule)) ∙ sym c.args.laid.now.counted in
-    filled_more cells c.args.before.now c.loop-cell.before c.loop-cell.cell c.cell-before.result A.worst
-    (omega arith) (omega arith) c.loop-cell.invariant c.cell-before.ensures
+    filled_more cells c.args.before.now c.loop-cell.before c.loop-cell.cell c.cell_before.result A.worst
+    (omega arith) (omega arith) c.loop-cell.invariant c.cell_before.ensures
 
 pub returns : goal.returns
 returns g c =

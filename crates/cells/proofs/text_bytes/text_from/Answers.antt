@@ -2,8 +2,8 @@ use Rattle.std.proofs.Common.{rules}
 use Rattle.cells.proofs.Filling.{front_is, front_fills}
 use Rattle.cells.proofs.text_bytes.text_from.Goals as goal
 
-pub invariant-of-result : goal.invariant-of-result
-invariant-of-result c = (search rules, (front_fills 96 0 _ c.args.text.now c.copy-from-slice.ensures.after (search rules), tt))
+pub invariant_of-result : goal.invariant_of-result
+invariant_of-result c = (search rules, (front_fills 96 0 _ c.args.text.now c.copy_from_slice.ensures.after (search rules), tt))
 
 pub returns : goal.returns
-returns c = front_is _ _ _ c.copy-from-slice.ensures.after
+returns c = front_is _ _ _ c.copy_from_slice.ensures.after

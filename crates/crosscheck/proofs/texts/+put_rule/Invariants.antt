@@ -1,4 +1,4 @@
 use Rattle.crosscheck.proofs.texts.+put_rule.Given as goal
 
-abbrev pub decreases-put-rule : goal.decreases-put-rule
-decreases-put-rule l = l.depth
+abbrev pub decreases-put_rule : goal.decreases-put_rule
+decreases-put_rule l = l.depth

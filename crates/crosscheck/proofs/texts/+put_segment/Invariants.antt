@@ -1,4 +1,4 @@
 use Rattle.crosscheck.proofs.texts.+put_segment.Given as goal
 
-abbrev pub decreases-put-segment : goal.decreases-put-segment
-decreases-put-segment l = l.depth
+abbrev pub decreases-put_segment : goal.decreases-put_segment
+decreases-put_segment l = l.depth

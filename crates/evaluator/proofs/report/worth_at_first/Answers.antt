@@ -5,10 +5,10 @@ use Rattle.std.proofs.lemmas.List.{length-map}
 
 pub at-requires : goal.at-requires
 at-requires g c =
-    let h = c.in-ok-row.ensures in
-    whole_has c.in-ok-row.row _ 0 h.whole h.sized (omega (arith, length-map c.args.letters.now g.L.Letter.heard, c.requires.some))
+    let h = c.in_ok-row.ensures in
+    whole_has c.in_ok-row.row _ 0 h.whole h.sized (omega (arith, length-map c.args.letters.now g.L.Letter.heard, c.requires.some))
 
 pub returns : goal.returns
 returns g c =
-    let h = c.in-ok-row.ensures in
+    let h = c.in_ok-row.ensures in
     c.at.ensures ∙ h.reads 0 (omega (arith, length-map c.args.letters.now g.L.Letter.heard, c.requires.some))

@@ -11,7 +11,7 @@ pub loop-back-preserved : goal.loop-back-preserved
 loop-back-preserved g c =
     let A = g.S.Scale.algebra in
     let spot : length c.args.letters.now - 1 - c.loop-back.back ≡ length c.args.letters.now - suc c.loop-back.back = omega arith in
-    filled_more A _ c.loop-back.back (vec_items c.loop-back.values) _ _ c.loop-back.invariant c.in-ok-push.ensures.items
+    filled_more A _ c.loop-back.back (vec_items c.loop-back.values) _ _ c.loop-back.invariant c.in_ok-push.ensures.items
     (c.tested.ensures ∙ ap (test_on A c.args.test.now.channel c.args.test.now.opposite)
     (letter_read A g.L.Letter.heard c.args.letters.now _ _ c.index-letters-size.result (omega arith) c.index-letters-size.is spot))
 

@@ -11,7 +11,7 @@ pub loop-back-preserved : goal.loop-back-preserved
 loop-back-preserved g c =
     let A = g.S.Scale.algebra in
     let spot : c.args.first.now.size - 1 - c.loop-back.back ≡ c.args.first.now.size - suc c.loop-back.back = omega arith in
-    filled_more A _ c.loop-back.back (vec_items c.loop-back.values) _ _ c.loop-back.invariant c.in-ok-push.ensures.items
+    filled_more A _ c.loop-back.back (vec_items c.loop-back.values) _ _ c.loop-back.invariant c.in_ok-push.ensures.items
     (c.merge.ensures ∙ ap₂ (merged A c.args.mode) (c.at.ensures ∙ ap (entry A c.args.first.now) spot) (c.at-in-loop-back.ensures ∙ ap (entry A c.args.second.now) spot))
 
 pub returns : goal.returns

@@ -12,7 +12,7 @@ loop-back-preserved g c =
     let A = g.S.Scale.algebra in
     let size = c.args.grid.now.size in
     let spot : size - 1 - c.loop-back.back ≡ size - suc c.loop-back.back = omega arith in
-    filled_more A _ c.loop-back.back (vec_items c.loop-back.values) _ _ c.loop-back.invariant c.in-ok-push.ensures.items
+    filled_more A _ c.loop-back.back (vec_items c.loop-back.values) _ _ c.loop-back.invariant c.in_ok-push.ensures.items
     (c.opened.ensures ∙ ap (pair_open A c.args.way (size - 1) (cell A c.args.grid.now) (entry A c.args.first.now) (entry A c.args.second.now)) spot)
 
 pub returns : goal.returns

@@ -8,8 +8,8 @@ use Rattle.evaluator.proofs.segment.repeat_grid.Goals as goal
 pub loop-p-init : goal.loop-p-init
 loop-p-init g c = (refl, filled_none g.S.Scale.algebra _ _ c.new.ensures.items)
 
-pub overflow-sub-size-in-loop-p : goal.overflow-sub-size-in-loop-p
-overflow-sub-size-in-loop-p g c = omega (arith, (spotted c.args.grid.now.size c.loop-p.p c.loop-p-test.true).row_in)
+pub overflow_sub-size-in-loop-p : goal.overflow_sub-size-in-loop-p
+overflow_sub-size-in-loop-p g c = omega (arith, (spotted c.args.grid.now.size c.loop-p.p c.loop-p-test.true).row_in)
 
 pub repeated-value-requires : goal.repeated-value-requires
 repeated-value-requires g c =
@@ -31,7 +31,7 @@ loop-p-preserved g c =
     let m = cell A c.args.grid.now in
     let row : size - 1 - c.loop-p.p / size ≡ row_at size c.loop-p.p = omega arith in (
       c.loop-p.invariant.0,
-      filled_more A _ c.loop-p.p (vec_items c.loop-p.steps.cells) _ _ c.loop-p.invariant.1 c.in-ok-push.ensures.items
+      filled_more A _ c.loop-p.p (vec_items c.loop-p.steps.cells) _ _ c.loop-p.invariant.1 c.in_ok-push.ensures.items
           (c.repeated-value.ensures ∙ ap (λ i. repeat_step A m (cell A c.loop-p.steps) i (c.loop-p.p % size)) row
           ∙ repeat_filled A m c.loop-p.steps size c.loop-p.p c.loop-p.invariant.0 c.loop-p-test.true c.loop-p.invariant.1),
     )

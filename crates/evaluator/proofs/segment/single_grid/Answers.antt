@@ -7,8 +7,8 @@ use Rattle.evaluator.proofs.segment.single_grid.Goals as goal
 pub loop-p-init : goal.loop-p-init
 loop-p-init g c = filled_none g.S.Scale.algebra _ _ c.new-cells.ensures.items
 
-pub overflow-sub-size-in-loop-p : goal.overflow-sub-size-in-loop-p
-overflow-sub-size-in-loop-p g c = omega (arith, (spotted (c.args.row.now.size + 1) c.loop-p.p c.loop-p-test.true).row_in)
+pub overflow_sub-size-in-loop-p : goal.overflow_sub-size-in-loop-p
+overflow_sub-size-in-loop-p g c = omega (arith, (spotted (c.args.row.now.size + 1) c.loop-p.p c.loop-p-test.true).row_in)
 
 pub single-requires : goal.single-requires
 single-requires g c =
@@ -19,7 +19,7 @@ pub loop-p-preserved : goal.loop-p-preserved
 loop-p-preserved g c =
     let A = g.S.Scale.algebra in
     let row : c.args.row.now.size + 1 - 1 - c.loop-p.p / (c.args.row.now.size + 1) ≡ row_at (c.args.row.now.size + 1) c.loop-p.p = omega arith in
-    filled_more A _ c.loop-p.p (vec_items c.loop-p.cells) _ _ c.loop-p.invariant c.in-ok-push.ensures.items
+    filled_more A _ c.loop-p.p (vec_items c.loop-p.cells) _ _ c.loop-p.invariant c.in_ok-push.ensures.items
     (c.single.ensures ∙ ap (λ i. single_step A (entry A c.args.row.now) i (c.loop-p.p % (c.args.row.now.size + 1))) row)
 
 pub returns : goal.returns

@@ -15,7 +15,7 @@ loop-back-preserved g c =
       | then-back-eq0 w ↦ w.push-is ∙ w.best.ensures ∙ sym (cond-true _ _ _ (eq-eqb (c.args.size - suc c.loop-back.back) (c.args.size - 1) (omega (arith, w.if-back-eq0.true))))
       | else-back-eq0 w ↦ w.push-is ∙ w.worst.ensures ∙ sym (cond-false _ _ _ (ne_eqb (c.args.size - suc c.loop-back.back) (c.args.size - 1) (λ e. omega (arith, w.if-back-eq0.false))))
     ] in
-    filled_more A _ c.loop-back.back (vec_items c.loop-back.values) _ _ c.loop-back.invariant c.in-ok-push.ensures.items value
+    filled_more A _ c.loop-back.back (vec_items c.loop-back.values) _ _ c.loop-back.invariant c.in_ok-push.ensures.items value
 
 pub returns : goal.returns
 returns g c = row_filled g.S.Scale.algebra _ _ _ c.loop-back.back refl c.loop-back.auto.back-end c.loop-back-test.false c.loop-back.invariant

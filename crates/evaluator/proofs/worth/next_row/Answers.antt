@@ -16,7 +16,7 @@ loop-back-preserved g c =
     let A = g.S.Scale.algebra in
     let size = c.args.after.now.size in
     let spot : size - 1 - c.loop-back.back ≡ size - suc c.loop-back.back = omega arith in
-    filled_more A _ c.loop-back.back (vec_items c.loop-back.values) _ _ c.loop-back.invariant c.in-ok-push.ensures.items
+    filled_more A _ c.loop-back.back (vec_items c.loop-back.values) _ _ c.loop-back.invariant c.in_ok-push.ensures.items
     (c.next.ensures ∙ ap (next_part A c.args.kind size (cell A c.args.table.now.matches) (entry A c.args.table.now.opened) (entry A c.args.after.now) c.args.mark) spot)
 
 pub returns : goal.returns

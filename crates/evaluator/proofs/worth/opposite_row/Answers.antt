@@ -11,7 +11,7 @@ loop-back-preserved g c =
     let A = g.S.Scale.algebra in
     let size = c.args.row.now.size in
     let spot : size - 1 - c.loop-back.back ≡ size - suc c.loop-back.back = omega arith in
-    filled_more A _ c.loop-back.back (vec_items c.loop-back.values) _ _ c.loop-back.invariant c.in-ok-push.ensures.items
+    filled_more A _ c.loop-back.back (vec_items c.loop-back.values) _ _ c.loop-back.invariant c.in_ok-push.ensures.items
     (c.opposite.ensures ∙ ap A.opposite (c.at.ensures ∙ ap (entry A c.args.row.now) spot))
 
 pub returns : goal.returns

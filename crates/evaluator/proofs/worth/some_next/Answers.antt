@@ -2,8 +2,8 @@ use Rattle.std.proofs.Common.{refl, arith}
 use Rattle.evaluator.proofs.Filled.{square_holds}
 use Rattle.evaluator.proofs.worth.some_next.Goals as goal
 
-pub some-along-inside-requires : goal.some-along-inside-requires
-some-along-inside-requires g c = record {
+pub some_along-inside-requires : goal.some_along-inside-requires
+some_along-inside-requires g c = record {
   first = λ k l h. square_holds c.args.table.now.matches c.args.table.now.matches.size _ _ c.args.table.now.square refl (omega (arith, c.requires.same)) (omega (arith, c.requires.same));
   second = λ k l h. c.requires.ahead k (omega arith) h;
 }

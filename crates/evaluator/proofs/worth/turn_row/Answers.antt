@@ -28,7 +28,7 @@ loop-back-preserved g c =
     let m = cell A c.args.table.now.matches in
     let o = entry A c.args.table.now.opened in
     partly_more A c.args.mode c.args.kind n m o (entry A c.args.hold.now) (entry A c.args.goal.now) c.args.mark
-    c.loop-back.back row (record { size = row.size; values = c.push.new.self }) c.turn-value.result c.loop-back-test.true inv inv.0 c.in-ok-push.ensures.items
+    c.loop-back.back row (record { size = row.size; values = c.push.new.self }) c.turn-value.result c.loop-back-test.true inv inv.0 c.in_ok-push.ensures.items
     (c.turn-value.ensures ∙ turned_same A c.args.mode _ _ _ _ _ _ (c.at.ensures ∙ ap (entry A c.args.goal.now) spot) (c.at-in-loop-back.ensures ∙ ap (entry A c.args.hold.now) spot)
     (c.next-ahead.ensures ∙ ap₂ (λ k i. next_part A c.args.kind k m o (entry A row) c.args.mark i) inv.0 spot))
 

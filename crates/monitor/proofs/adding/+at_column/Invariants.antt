@@ -1,4 +1,4 @@
 use Rattle.monitor.proofs.adding.+at_column.Given as goal
 
-abbrev pub decreases-at-column : goal.decreases-at-column
-decreases-at-column g l = l.n
+abbrev pub decreases-at_column : goal.decreases-at_column
+decreases-at_column g l = l.n

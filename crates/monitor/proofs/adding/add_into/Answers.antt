@@ -11,5 +11,5 @@ loop-corner-preserved g c =
     let n = c.args.cells in
     let row = listed A c.args.row.now in
     listing_more (λ corner. at A n row (λ j. table_in A n c.args.second.now j corner)) c.args.into.now c.loop-corner.into c.loop-corner.corner
-    c.at-column.result (omega arith) c.loop-corner.invariant
-    (at_column g.met.S.Scale.lawful n row c.args.second.now c.loop-corner.corner c.at-column.result c.at-column.ensures)
+    c.at_column.result (omega arith) c.loop-corner.invariant
+    (at_column g.met.S.Scale.lawful n row c.args.second.now c.loop-corner.corner c.at_column.result c.at_column.ensures)

@@ -13,7 +13,7 @@ returns g c =
     let size = c.corners-size.result in
     let t = table_in A n c.args.second.now in
     record {
-      table = c.copy-front.ensures ∙ first_row g.met.S.Scale.lawful n size c.args.table.now c.args.spare.now c.add-into.new.into t c.corners-size.ensures.count c.add-into.ensures;
-      spare = c.clear.ensures ∙ cleared_same g.met.S.Scale.lawful (2 ^ n) (row_then A n (between 0 size c.args.table.now) t) c.args.spare.now c.add-into.new.into
-          (length_listing (2 ^ n) _) (omega arith) c.add-into.ensures;
+      table = c.copy_front.ensures ∙ first_row g.met.S.Scale.lawful n size c.args.table.now c.args.spare.now c.add_into.new.into t c.corners-size.ensures.count c.add_into.ensures;
+      spare = c.clear.ensures ∙ cleared_same g.met.S.Scale.lawful (2 ^ n) (row_then A n (between 0 size c.args.table.now) t) c.args.spare.now c.add_into.new.into
+          (length_listing (2 ^ n) _) (omega arith) c.add_into.ensures;
     }

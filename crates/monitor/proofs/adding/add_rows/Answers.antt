@@ -11,8 +11,8 @@ loop-k-init g c =
     let n = c.args.cells in
     row_none n (followed A n (table_in A n c.args.first.now) (table_in A n c.args.second.now)) c.args.third.now
 
-pub offset-bounds-third-k : goal.offset-bounds-third-k
-offset-bounds-third-k g c =
+pub offset_bounds-third-k : goal.offset_bounds-third-k
+offset_bounds-third-k g c =
     let n = c.args.cells in
     let k = c.loop-k.k in
     let size = c.corners-size.result in
@@ -25,5 +25,5 @@ pub loop-k-preserved : goal.loop-k-preserved
 loop-k-preserved g c =
     let n = c.args.cells in
     row_added g.met.S.Scale.lawful n c.loop-k.k n c.corners-size.result c.args.first.now c.args.third.now c.loop-k.third
-    c.add-into.new.into (table_in g.S.Scale.algebra n c.args.second.now) c.corners-size.ensures.count c.loop-k-test.true c.requires.three
-    c.loop-k.auto.third c.loop-k.invariant c.add-into.ensures
+    c.add_into.new.into (table_in g.S.Scale.algebra n c.args.second.now) c.corners-size.ensures.count c.loop-k-test.true c.requires.three
+    c.loop-k.auto.third c.loop-k.invariant c.add_into.ensures

@@ -10,11 +10,11 @@ returns c =
     let watch = c.args.watch.now in
     let summary = c.args.summary.now in
     let own = rule_of laid.rule in
-    let watches = same_rule own watch c.if-text-differs.ensures in
-    let sums = same_rule own summary c.if-text-differs-2.ensures in
-    let room = rows_fit own laid.count watch 1 c.args.room laid.counted watches c.if-rows-short.ensures in
-    let space = summary_fits own laid.count summary c.args.space laid.counted sums c.if-summary-is-short.ensures in
+    let watches = same_rule own watch c.if-text_differs.ensures in
+    let sums = same_rule own summary c.if-text_differs-2.ensures in
+    let room = rows_fit own laid.count watch 1 c.args.room laid.counted watches c.if-rows_short.ensures in
+    let space = summary_fits own laid.count summary c.args.space laid.counted sums c.if-summary_is_short.ensures in
     record {
       answer = search rules;
-      room = λ _. (watches, sums, room, space, c.if-spare-lt-SPARE.false, ltb-false _ _ (sym c.if-too-many.ensures));
+      room = λ _. (watches, sums, room, space, c.if-spare-lt-SPARE.false, ltb-false _ _ (sym c.if-too_many.ensures));
     }

@@ -7,6 +7,6 @@ pub returns : goal.returns
 returns g c =
     let laid = c.args.rule.now in
     let head = c.args.head.now in
-    let same = same_rule (rule_of laid.rule) head c.if-text-differs.ensures in
-    let room = rows_fit (rule_of laid.rule) laid.count head c.args.count c.args.room laid.counted same c.if-rows-short.ensures in
-    record { answer = search rules; room = λ _. (same, room, c.if-spare-lt-SPARE.false, c.if-letters-gt-MOST-LETTERS.false) }
+    let same = same_rule (rule_of laid.rule) head c.if-text_differs.ensures in
+    let room = rows_fit (rule_of laid.rule) laid.count head c.args.count c.args.room laid.counted same c.if-rows_short.ensures in
+    record { answer = search rules; room = λ _. (same, room, c.if-spare-lt-SPARE.false, c.if-letters-gt-MOST_LETTERS.false) }

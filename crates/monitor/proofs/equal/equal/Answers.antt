@@ -17,8 +17,8 @@ returns-then-not-same g c =
       ]),
     )
 
-pub same-front-requires : goal.same-front-requires
-same-front-requires g c =
+pub same_front-requires : goal.same_front-requires
+same_front-requires g c =
     let one = c.args.first.now in
     let two = c.args.second.now in
     record {
@@ -38,8 +38,8 @@ returns g c =
           c.if-one-size.false c.if-two-other.false,
       (λ e. equal_fronts A one.head two.head one.count.number two.count.number one.table.now two.table.now
           c.corners.result c.corners-2.result c.corners.ensures.count c.corners-2.ensures.count
-          (same_texts one.head two.head c.if-not-same.ensures) c.if-first-second.false (c.same-front.ensures.0 e)),
-      (λ equal. c.same-front.ensures.1
+          (same_texts one.head two.head c.if-not-same.ensures) c.if-first-second.false (c.same_front.ensures.0 e)),
+      (λ equal. c.same_front.ensures.1
           (fronts_equal A one.head two.head one.count.number two.count.number one.table.now two.table.now
           c.corners.result c.corners-2.result c.corners.ensures.count c.corners-2.ensures.count equal)),
     )

@@ -6,8 +6,8 @@ use Rattle.rule.specs.Spelling.{spelled}
 use Rattle.rule.specs.Stands.{rule_of}
 use Rattle.runs.specs.States.{cells_of_rule}
 
-pub invariant-of-result : goal.invariant-of-result
-invariant-of-result c =
+pub invariant_of-result : goal.invariant_of-result
+invariant_of-result c =
     let laid = c.args.rule.now in
     let e = names (text_of laid.text) (rule_of laid.rule) laid.spells in
     (laid.spells ∙ ap spelled (sym e), (laid.counted ∙ ap cells_of_rule (sym e), (laid.few, tt)))

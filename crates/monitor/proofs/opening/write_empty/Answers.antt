@@ -8,4 +8,4 @@ loop-k-init g c = row_none c.args.cells (empty g.S.Scale.algebra) c.args.table.n
 pub loop-k-preserved : goal.loop-k-preserved
 loop-k-preserved g c =
     row_over c.args.cells c.loop-k.k c.args.count c.corners-size.result (empty g.S.Scale.algebra) c.args.table.now c.loop-k.table
-    c.write-row.new.into c.corners-size.ensures.count c.loop-k-test.true c.requires.long c.loop-k.auto.table c.loop-k.invariant c.write-row.ensures
+    c.write_row.new.into c.corners-size.ensures.count c.loop-k-test.true c.requires.long c.loop-k.auto.table c.loop-k.invariant c.write_row.ensures

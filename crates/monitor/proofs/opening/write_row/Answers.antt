@@ -5,5 +5,5 @@ use Rattle.monitor.proofs.opening.write_row.Goals as goal
 
 pub loop-corner-preserved : goal.loop-corner-preserved
 loop-corner-preserved g c =
-    listing_more (empty g.S.Scale.algebra c.args.row) c.args.into.now c.loop-corner.into c.loop-corner.corner c.empty-entry.result
-    (omega arith) c.loop-corner.invariant c.empty-entry.ensures
+    listing_more (empty g.S.Scale.algebra c.args.row) c.args.into.now c.loop-corner.into c.loop-corner.corner c.empty_entry.result
+    (omega arith) c.loop-corner.invariant c.empty_entry.ensures

@@ -9,17 +9,17 @@ use Rattle.rule.specs.Stands.{rule_of}
 use Rattle.runs.specs.States.{listing}
 use Rattle.std.proofs.lemmas.List.Edits.{length-between}
 
-pub offset-bounds-spare-corner : goal.offset-bounds-spare-corner
-offset-bounds-spare-corner g c = scaled_fits≤ c.loop-corner.corner (length c.args.spare.now) _ (omega arith) c.well-formed.1.1.1.0.1
+pub offset_bounds-spare-corner : goal.offset_bounds-spare-corner
+offset_bounds-spare-corner g c = scaled_fits≤ c.loop-corner.corner (length c.args.spare.now) _ (omega arith) c.well-formed.1.1.1.0.1
 
 pub loop-corner-preserved : goal.loop-corner-preserved
 loop-corner-preserved g c =
     let A = g.S.Scale.algebra in
     let t = letter_table A (rule_of c.args.laid.now.rule) (g.L.Letter.heard c.args.letter.now) in
     entry_more (λ corner. at A c.args.laid.now.count (listed A c.args.row.now) (λ j. t j corner)) c.args.spare.now c.loop-corner.spare
-    c.read-entry-entry.new.values c.loop-corner.corner c.read-entry-entry.result (omega arith) (omega arith)
-    (omega (arith, c.read-entry-entry.auto.values, length-between c.loop-corner.spare 256 264 (omega arith)))
-    c.loop-corner.invariant.0 c.loop-corner.invariant.1 c.read-entry-entry.ensures
+    c.read_entry-entry.new.values c.loop-corner.corner c.read_entry-entry.result (omega arith) (omega arith)
+    (omega (arith, c.read_entry-entry.auto.values, length-between c.loop-corner.spare 256 264 (omega arith)))
+    c.loop-corner.invariant.0 c.loop-corner.invariant.1 c.read_entry-entry.ensures
 
 pub returns : goal.returns
 returns g c =

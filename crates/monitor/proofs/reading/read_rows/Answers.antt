@@ -14,8 +14,8 @@ loop-k-init g c =
     let n = c.args.laid.now.count in
     (row_none n (followed A n (table_in A n c.args.table.now) (letter_table A (rule_of c.args.laid.now.rule) (g.L.Letter.heard c.args.letter.now))) c.args.table.now, refl)
 
-pub offset-bounds-table-k : goal.offset-bounds-table-k
-offset-bounds-table-k g c =
+pub offset_bounds-table-k : goal.offset_bounds-table-k
+offset_bounds-table-k g c =
     let k = c.loop-k.k in
     let size = c.corners-size.result in
     let table = c.args.table.now in
@@ -23,8 +23,8 @@ offset-bounds-table-k g c =
     omega (arith, row_within c.args.laid.now.count k c.args.count size table table c.corners-size.ensures.count c.loop-k-test.true c.requires.long refl) in
     scaled_fits≤ (k * size) (length table) _ inside c.well-formed.1.1.1.0.1
 
-pub read-row-requires : goal.read-row-requires
-read-row-requires g c = record {
+pub read_row-requires : goal.read_row-requires
+read_row-requires g c = record {
   whole = length_row c.loop-k.k c.corners-size.result c.loop-k.table
       (row_within c.args.laid.now.count c.loop-k.k c.args.count c.corners-size.result c.args.table.now c.loop-k.table c.corners-size.ensures.count
       c.loop-k-test.true c.requires.long c.loop-k.auto.table) ∙ c.corners-size.ensures.count;
@@ -33,10 +33,10 @@ read-row-requires g c = record {
 
 pub loop-k-preserved : goal.loop-k-preserved
 loop-k-preserved g c = (
-  row_read g.met.S.Scale.lawful c.args.laid.now.count c.loop-k.k c.corners-size.result c.args.table.now c.loop-k.table c.read-row.new.row
+  row_read g.met.S.Scale.lawful c.args.laid.now.count c.loop-k.k c.corners-size.result c.args.table.now c.loop-k.table c.read_row.new.row
       (letter_table g.S.Scale.algebra (rule_of c.args.laid.now.rule) (g.L.Letter.heard c.args.letter.now)) c.corners-size.ensures.count
-      c.loop-k.invariant.0 c.read-row.ensures.row,
-  c.read-row.ensures.rest ∙ c.loop-k.invariant.1,
+      c.loop-k.invariant.0 c.read_row.ensures.row,
+  c.read_row.ensures.rest ∙ c.loop-k.invariant.1,
 )
 
 pub returns : goal.returns

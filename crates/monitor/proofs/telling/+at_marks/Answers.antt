@@ -11,12 +11,12 @@ use Rattle.std.proofs.lemmas.List.{get_or_default}
 pub returns-then-n-eq0 : goal.returns-then-n-eq0
 returns-then-n-eq0 g t c = one_value g.met.S.Scale.lawful _ _ _ _ c.if-n-eq0.true c.requires.whole c.index-row-0.is
 
-pub at-marks-without-requires : goal.at-marks-without-requires
-at-marks-without-requires g t c κs within =
+pub at_marks-without-requires : goal.at_marks-without-requires
+at_marks-without-requires g t c κs within =
     (omega (arith, c.if-n-eq0.false, c.decreases), (within, (first_half _ _ c.if-n-eq0.false c.requires.whole, omega (arith, c.requires.some))))
 
-pub at-marks-with-requires : goal.at-marks-with-requires
-at-marks-with-requires g t c κs within =
+pub at_marks-with-requires : goal.at_marks-with-requires
+at_marks-with-requires g t c κs within =
     (omega (arith, c.if-n-eq0.false, c.decreases), (within, (second_half _ _ c.if-n-eq0.false c.requires.whole, omega (arith, c.requires.some))))
 
 pub returns : goal.returns
@@ -24,6 +24,6 @@ returns g t c =
     let A = g.S.Scale.algebra in
     let r = rule_of c.args.laid.now.rule in
     from_halves g.met.S.Scale.lawful c.args.n c.args.row.now (end_marks A.pending (mark_of A) (inward false r)) _ _ _ _ _ c.if-n-eq0.false
-    c.requires.whole (omega (arith, ends_length A r, c.requires.some, c.args.laid.now.counted)) c.at-marks-without.ensures c.at-marks-with.ensures
-    (c.mark-of-cell-mark.ensures ∙ get_or_default (end_marks A.pending (mark_of A) (inward false r)) (c.args.n - 1) A.worst _ (omega (arith, ends_length A r, c.requires.some, c.args.laid.now.counted, c.if-n-eq0.false)))
+    c.requires.whole (omega (arith, ends_length A r, c.requires.some, c.args.laid.now.counted)) c.at_marks-without.ensures c.at_marks-with.ensures
+    (c.mark_of_cell-mark.ensures ∙ get_or_default (end_marks A.pending (mark_of A) (inward false r)) (c.args.n - 1) A.worst _ (omega (arith, ends_length A r, c.requires.some, c.args.laid.now.counted, c.if-n-eq0.false)))
     c.meet.ensures c.join.ensures

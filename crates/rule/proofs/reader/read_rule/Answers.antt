@@ -3,4 +3,4 @@ use Rattle.rule.proofs.Answer.{answer}
 use Rattle.rule.proofs.reader.read_rule.Goals as goal
 
 pub returns : goal.returns
-returns c = answer c.args.text.now c.read-whole.result c.read-whole.ensures
+returns c = answer c.args.text.now c.read_whole.result c.read_whole.ensures

@@ -4,4 +4,4 @@ use Rattle.letter.proofs.measured.MeasuredLetter.value.Goals as goal
 
 pub returns : goal.returns
 returns c =
-    fit_value c.args.self.now c.args.channel c.over.result (omega arith) (sym c.if-is-unfit.ensures) c.over.ensures
+    fit_value c.args.self.now c.args.channel c.over.result (omega arith) (sym c.if-is_unfit.ensures) c.over.ensures

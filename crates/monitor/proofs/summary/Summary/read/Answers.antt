@@ -12,13 +12,13 @@ returns g c =
     let r = rule_of laid.rule in
     let l = g.L.Letter.heard c.args.letter.now in
     let rows = self.head.cells in
-    let checked = c.in-default.ensures.answer in
-    let same = (c.in-default.ensures.room refl).0 in
+    let checked = c.in_default.ensures.answer in
+    let same = (c.in_default.ensures.room refl).0 in
     record {
       answer = letter_answered A summary self.head self.count.number self.table.now r l c.args.spare.now rows self.head.counted checked;
       state = letter_left A summary self.head self.count.number self.table.now r l c.args.spare.now rows self.head.counted checked
-          laid.count c.read-rows.new.table same laid.counted c.read-rows.ensures.table;
+          laid.count c.read_rows.new.table same laid.counted c.read_rows.ensures.table;
       spare = letter_spared A summary self.head self.count.number self.table.now r l c.args.spare.now rows self.head.counted checked
-          c.read-rows.new.spare c.read-rows.ensures.spare;
+          c.read_rows.new.spare c.read_rows.ensures.spare;
       buffer = refl {a = self.table.ghost_name};
     }

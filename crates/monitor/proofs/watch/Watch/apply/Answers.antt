@@ -10,14 +10,14 @@ pub returns : goal.returns
 returns g c =
     let A = g.S.Scale.algebra in
     let laws = g.met.S.Scale.lawful in
-    let left = watch_state c.take-in.new.self in
+    let left = watch_state c.take_in.new.self in
     record {
-      answer = c.take-in.ensures.answer;
-      state = c.take-in.ensures.state;
-      spare = c.take-in.ensures.spare;
-      buffer = c.take-in.ensures.buffer;
-      run = run_apply A (watch_state c.args.self.now) left c.take-in.result (rule_of c.args.rule.now.rule)
-          (summary_state c.args.summary.now) c.args.spare.now c.take-in.ensures.answer c.take-in.ensures.state;
+      answer = c.take_in.ensures.answer;
+      state = c.take_in.ensures.state;
+      spare = c.take_in.ensures.spare;
+      buffer = c.take_in.ensures.buffer;
+      run = run_apply A (watch_state c.args.self.now) left c.take_in.result (rule_of c.args.rule.now.rule)
+          (summary_state c.args.summary.now) c.args.spare.now c.take_in.ensures.answer c.take_in.ensures.state;
       law = watch_law laws (engine laws) left;
       bits = bit_law (engine verdicts_lawful);
     }

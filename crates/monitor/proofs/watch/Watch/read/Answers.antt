@@ -11,13 +11,13 @@ returns g c =
     let laid = c.args.rule.now in
     let r = rule_of laid.rule in
     let l = g.L.Letter.heard c.args.letter.now in
-    let checked = c.in-default.ensures.answer in
-    let same = (c.in-default.ensures.room refl).0 in
+    let checked = c.in_default.ensures.answer in
+    let same = (c.in_default.ensures.room refl).0 in
     record {
       answer = letter_answered A watch self.head self.count.number self.table.now r l c.args.spare.now 1 refl checked;
       state = letter_left A watch self.head self.count.number self.table.now r l c.args.spare.now 1 refl checked
-          laid.count c.read-rows.new.table same laid.counted c.read-rows.ensures.table;
+          laid.count c.read_rows.new.table same laid.counted c.read_rows.ensures.table;
       spare = letter_spared A watch self.head self.count.number self.table.now r l c.args.spare.now 1 refl checked
-          c.read-rows.new.spare c.read-rows.ensures.spare;
+          c.read_rows.new.spare c.read_rows.ensures.spare;
       buffer = refl {a = self.table.ghost_name};
     }

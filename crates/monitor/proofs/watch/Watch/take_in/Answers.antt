@@ -10,13 +10,13 @@ returns g c =
     let sum = c.args.summary.now in
     let laid = c.args.rule.now in
     let r = rule_of laid.rule in
-    let checked = c.in-default.ensures.answer in
-    let same = c.in-default.ensures.room refl in
+    let checked = c.in_default.ensures.answer in
+    let same = c.in_default.ensures.room refl in
     record {
       answer = checked;
       state = apply_left A self.head self.count.number self.table.now sum.head sum.count.number sum.table.now r c.args.spare.now checked
-          laid.count c.add-row.new.table same.0 same.1 laid.counted c.add-row.ensures.table;
+          laid.count c.add_row.new.table same.0 same.1 laid.counted c.add_row.ensures.table;
       spare = apply_spared A self.head self.count.number self.table.now sum.head sum.count.number sum.table.now r c.args.spare.now checked
-          c.add-row.new.spare c.add-row.ensures.spare;
+          c.add_row.new.spare c.add_row.ensures.spare;
       buffer = refl {a = self.table.ghost_name};
     }
