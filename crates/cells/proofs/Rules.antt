@@ -131,18 +131,18 @@ module _ {S : Type 0} {A : Algebra S} (L : Lawful A) (value : Test → ℕ → S
         let x = rule_steps r p.0 (suc base) c.hold in
         let y = rule_steps s p.1 (suc base + inner_cells r + test_cells a) c.goal in
         let now : before A (λ t. value t i) after (until k r a s) base ≡ f i =
-        ap₂ A.join y.0 (ap₂ A.meet x.0 (c.next-step ∙ sym (next_along A value n k a f (mark k) i)))
+        ap₂ A.join y.0 (ap₂ A.meet x.0 (c.next_step ∙ sym (next_along A value n k a f (mark k) i)))
         ∙ sym (unrolled A value n (λ odd kind. mark kind) false k r a s i h).until_is in
-        (now, ap₂ (λ x r. x ∷ r) (now ∙ sym (ended_now A value n f (mark k) i h)) (ap₂ ◌++◌ x.1 (ap₂ ◌++◌ c.test-steps y.1)))
+        (now, ap₂ (λ x r. x ∷ r) (now ∙ sym (ended_now A value n f (mark k) i h)) (ap₂ ◌++◌ x.1 (ap₂ ◌++◌ c.test_steps y.1)))
     rule_steps (release k r a s) p base v =
         let f : ℕ → S = worth_at (release k r a s) in
         let c = held k r a s (ended A value n f (mark k)) base v in
         let x = rule_steps r p.0 (suc base) c.hold in
         let y = rule_steps s p.1 (suc base + inner_cells r + test_cells a) c.goal in
         let now : before A (λ t. value t i) after (release k r a s) base ≡ f i =
-        ap₂ A.meet y.0 (ap₂ A.join x.0 (c.next-step ∙ sym (next_along A value n k a f (mark k) i)))
+        ap₂ A.meet y.0 (ap₂ A.join x.0 (c.next_step ∙ sym (next_along A value n k a f (mark k) i)))
         ∙ sym (unrolled A value n (λ odd kind. mark kind) false k r a s i h).release_is in
-        (now, ap₂ (λ x r. x ∷ r) (now ∙ sym (ended_now A value n f (mark k) i h)) (ap₂ ◌++◌ x.1 (ap₂ ◌++◌ c.test-steps y.1)))
+        (now, ap₂ (λ x r. x ∷ r) (now ∙ sym (ended_now A value n f (mark k) i h)) (ap₂ ◌++◌ x.1 (ap₂ ◌++◌ c.test_steps y.1)))
 
   pub cells_step : (whole : S) (r : Rule) → Positive r → (i : ℕ) → i < n
       → step A (λ t. value t i) (λ k. get_or (cells_mean A value n mark whole r (suc i)) k A.worst) r ≡ cells_mean A value n mark whole r i

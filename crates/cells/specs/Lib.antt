@@ -1,5 +1,6 @@
 pub mod Answers
 pub mod Lays
+pub mod LaysRule
 pub mod Meaning
 pub mod Reading
 pub mod RowAt

@@ -1,4 +1,4 @@
-use Rattle.std.proofs.Common.{sym, refl, ◌∙◌, arith}
+use Rattle.std.proofs.Common.{refl, arith}
 use Rattle.rule.specs.Stands.{rule_of}
 use Rattle.cells.proofs.Laying.{small, all_cells}
 use Rattle.cells.proofs.lay.laid_of.Goals as goal
@@ -20,10 +20,8 @@ returns-then-count-gt-MOST_CELLS c = (
 )
 
 pub invariant_of-result : goal.invariant_of-result
-invariant_of-result c = (
-  small _ _ c.in_ok-rule.ensures.0,
-  (
-    all_cells _ _ c.rule_cells-count.ensures.counted,
-    (omega (arith, c.if-count-gt-MOST_CELLS.false), (c.text_from.ensures ∙ sym c.in_ok-rule.ensures.0.spelling, tt)),
-  ),
-)
+invariant_of-result c = record {
+  small = small _ _ c.in_ok-rule.ensures.0;
+  counted = all_cells _ _ c.rule_cells-count.ensures.counted;
+  few = omega (arith, c.if-count-gt-MOST_CELLS.false);
+}

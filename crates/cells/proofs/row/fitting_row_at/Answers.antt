@@ -11,5 +11,5 @@ pub returns-else-n-lt64 : goal.returns-else-n-lt64
 returns-else-n-lt64 g c e =
     elim c.else-n-lt64.branch [
       | else-n-lt64-via-then-n-lt64+else-row-n w ↦ w.if-row-n.false (e ∙ sym (one_shl _ 64 w.if-n-lt64.true))
-      | else-n-lt64-via-else-n-lt64 w ↦ omega (arith, e, c.well-formed.0.0, pow_mono w.if-n-lt64.false)
+      | else-n-lt64-via-else-n-lt64 w ↦ omega (arith, e, c.well_formed.0.0, pow_mono w.if-n-lt64.false)
     ]

@@ -19,7 +19,7 @@ offset_bounds-third-k g c =
     let third = c.args.third.now in
     let inside : k * size ≤ length third =
     omega (arith, row_within n k n size third third c.corners-size.ensures.count c.loop-k-test.true c.requires.three refl) in
-    scaled_fits≤ (k * size) (length third) _ inside c.well-formed.1.1.1.0.1
+    scaled_fits≤ (k * size) (length third) _ inside c.well_formed.1.1.1.0.1
 
 pub loop-k-preserved : goal.loop-k-preserved
 loop-k-preserved g c =

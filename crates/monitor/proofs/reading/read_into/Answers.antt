@@ -10,7 +10,7 @@ use Rattle.runs.specs.States.{listing}
 use Rattle.std.proofs.lemmas.List.Edits.{length-between}
 
 pub offset_bounds-spare-corner : goal.offset_bounds-spare-corner
-offset_bounds-spare-corner g c = scaled_fits≤ c.loop-corner.corner (length c.args.spare.now) _ (omega arith) c.well-formed.1.1.1.0.1
+offset_bounds-spare-corner g c = scaled_fits≤ c.loop-corner.corner (length c.args.spare.now) _ (omega arith) c.well_formed.1.1.1.0.1
 
 pub loop-corner-preserved : goal.loop-corner-preserved
 loop-corner-preserved g c =

@@ -21,7 +21,7 @@ offset_bounds-table-k g c =
     let table = c.args.table.now in
     let inside : k * size ≤ length table =
     omega (arith, row_within c.args.laid.now.count k c.args.count size table table c.corners-size.ensures.count c.loop-k-test.true c.requires.long refl) in
-    scaled_fits≤ (k * size) (length table) _ inside c.well-formed.1.1.1.0.1
+    scaled_fits≤ (k * size) (length table) _ inside c.well_formed.1.1.1.0.1
 
 pub read_row-requires : goal.read_row-requires
 read_row-requires g c = record {
