@@ -1,7 +1,7 @@
 // Taking in a summary: what is refused and in which order, and what is written.
 use crate::shared::{BLANK, MOST, OTHER, OWN, all_are, counted, refusal, repeated, volume};
-use cells::laid::Laid;
-use cells::lay::lay;
+use cells::laid_rule::LaidRule;
+use cells::lay_rule::lay_rule;
 use monitor::summary::Summary;
 use monitor::watch::Watch;
 use scale::verdict::Verdict;
@@ -13,7 +13,13 @@ use std::test::Fail;
 type Seen = ((u8, usize), u32, ([Verdict; 5], [Verdict; 8]));
 
 // A watch for one rule has read so many letters 0000 and takes in the summary of a letter 000e for another.
-fn applied(own: &Laid, times: u32, summed: &Laid, rule: &Laid, spare: &mut [Verdict]) -> Seen {
+fn applied(
+    own: &LaidRule,
+    times: u32,
+    summed: &LaidRule,
+    rule: &LaidRule,
+    spare: &mut [Verdict],
+) -> Seen {
     let mut row = [BLANK; 5];
     let mut table = [BLANK; 8];
     let mut before = [BLANK; 8];
@@ -29,10 +35,10 @@ fn applied(own: &Laid, times: u32, summed: &Laid, rule: &Laid, spare: &mut [Verd
 
 // A watch takes in an empty summary in these buffers.
 fn applied_in(
-    own: &Laid,
+    own: &LaidRule,
     row: &mut [Verdict],
     table: &mut [Verdict],
-    rule: &Laid,
+    rule: &LaidRule,
     spare: &mut [Verdict],
 ) -> (u8, usize) {
     let summary = Summary::open(own, table);
@@ -41,7 +47,7 @@ fn applied_in(
 }
 
 // Each of the two buffers too short, with another text and too short a spare besides.
-fn check_buffers(rt: &impl Abort, own: &Laid, other: &Laid) {
+fn check_buffers(rt: &impl Abort, own: &LaidRule, other: &LaidRule) {
     let mut scant = [BLANK; 311];
     let mut row = [BLANK; 4];
     let mut narrow = [BLANK; 3];
@@ -67,7 +73,7 @@ fn check_buffers(rt: &impl Abort, own: &Laid, other: &Laid) {
 
 // In each call all faults that are checked later are there as well. Each of the three texts is once another one. Letters
 // 0000 have rows 0 0 3 3, and 000e after them would make them 3 3 3 3.
-fn check_others(rt: &impl Abort, own: &Laid, other: &Laid) {
+fn check_others(rt: &impl Abort, own: &LaidRule, other: &LaidRule) {
     let mut spare = [BLANK; 312];
     let mut scant = [BLANK; 311];
     let seen = ([Broken, Broken, Kept, Kept, BLANK], [Kept; 8]);
@@ -96,8 +102,8 @@ fn check_others(rt: &impl Abort, own: &Laid, other: &Laid) {
 
 #[test]
 fn checks_of_apply(rt: HostRuntime) -> Result<(), Fail> {
-    let own = lay(rt.alloc(), OWN)?;
-    let other = lay(rt.alloc(), OTHER)?;
+    let own = lay_rule(rt.alloc(), OWN)?;
+    let other = lay_rule(rt.alloc(), OTHER)?;
     check_buffers(&rt, &own, &other);
     check_others(&rt, &own, &other);
     Ok(())
@@ -105,7 +111,7 @@ fn checks_of_apply(rt: HostRuntime) -> Result<(), Fail> {
 
 #[test]
 fn what_apply_writes(rt: HostRuntime) -> Result<(), Fail> {
-    let laid = lay(rt.alloc(), OWN)?;
+    let laid = lay_rule(rt.alloc(), OWN)?;
     let mut spare = [BLANK; 315];
     let expected = ((0, 0), MOST, ([Kept, Kept, Kept, Kept, BLANK], [Kept; 8]));
     assert_eq!(rt;

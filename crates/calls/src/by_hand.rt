@@ -1,7 +1,7 @@
 // Runs by hand: the reports after each letter, by letters, by joined summaries and by summaries taken in.
 use crate::shared::{BLANK, OWN, volume};
-use cells::laid::Laid;
-use cells::lay::lay;
+use cells::laid_rule::LaidRule;
+use cells::lay_rule::lay_rule;
 use fault::WorkFault;
 use letter::bits::Bits;
 use letter::measured::Measured;
@@ -22,14 +22,14 @@ fn told(answer: Result<(Verdict, Verdict, Verdict), WorkFault>) -> (u8, u8, u8) 
 }
 
 // The report of a watch after one letter more.
-fn next<'b>(watch: &mut Watch<'b, Verdict>, laid: &Laid, word: u16) -> (u8, u8, u8) {
+fn next<'b>(watch: &mut Watch<'b, Verdict>, laid: &LaidRule, word: u16) -> (u8, u8, u8) {
     let mut spare = [BLANK; 312];
     let _ = watch.letter(laid, &Bits { word }, &mut spare);
     told(watch.report(laid))
 }
 
 // The report of the join of two volumes.
-fn by_join(laid: &Laid, first: &[u16], second: &[u16]) -> (u8, u8, u8) {
+fn by_join(laid: &LaidRule, first: &[u16], second: &[u16]) -> (u8, u8, u8) {
     let mut one = [BLANK; 24];
     let mut two = [BLANK; 24];
     let mut three = [BLANK; 24];
@@ -41,7 +41,7 @@ fn by_join(laid: &Laid, first: &[u16], second: &[u16]) -> (u8, u8, u8) {
 }
 
 // The report of a watch that takes in two volumes.
-fn by_apply(laid: &Laid, first: &[u16], second: &[u16]) -> (u8, u8, u8) {
+fn by_apply(laid: &LaidRule, first: &[u16], second: &[u16]) -> (u8, u8, u8) {
     let mut one = [BLANK; 24];
     let mut two = [BLANK; 24];
     let mut row = [BLANK; 8];
@@ -62,7 +62,7 @@ struct Case {
     reports: [(u8, u8, u8); 3],
 }
 
-fn check_case(rt: &impl Abort, laid: &Laid, words: [u16; 3], reports: [(u8, u8, u8); 3]) {
+fn check_case(rt: &impl Abort, laid: &LaidRule, words: [u16; 3], reports: [(u8, u8, u8); 3]) {
     let mut row = [BLANK; 8];
     let mut watch = Watch::open(laid, &mut row);
     let [one, two, three] = words;
@@ -107,14 +107,14 @@ fn reports_after_each_letter(rt: HostRuntime) -> Result<(), Fail> {
         },
     ];
     for case in cases {
-        let laid = lay(rt.alloc(), case.text)?;
+        let laid = lay_rule(rt.alloc(), case.text)?;
         check_case(&rt, &laid, case.words, case.reports);
     }
     Ok(())
 }
 
 // Margins -21 on channel 1 and -7 on channel 2: the until is by 7 short of being kept here, and by 21 not yet broken.
-fn check_margins(rt: &impl Abort, laid: &Laid) -> Result<(), Fail> {
+fn check_margins(rt: &impl Abort, laid: &LaidRule) -> Result<(), Fail> {
     let mut letter = Measured {
         readings: [0; 16],
         limits: [0; 16],
@@ -134,6 +134,6 @@ fn check_margins(rt: &impl Abort, laid: &Laid) -> Result<(), Fail> {
 
 #[test]
 fn a_report_of_margins(rt: HostRuntime) -> Result<(), Fail> {
-    let laid = lay(rt.alloc(), OWN)?;
+    let laid = lay_rule(rt.alloc(), OWN)?;
     check_margins(&rt, &laid)
 }

@@ -1,7 +1,7 @@
 // Comparing summaries: they are equal when text, count and rows are.
 use crate::shared::{BLANK, refusal, volume};
-use cells::laid::Laid;
-use cells::lay::lay;
+use cells::laid_rule::LaidRule;
+use cells::lay_rule::lay_rule;
 use fault::WorkFault;
 use monitor::equal::equal;
 use scale::verdict::Verdict;
@@ -11,10 +11,10 @@ use std::test::Fail;
 
 // Are the summaries of two volumes, in these buffers, equal.
 fn alike(
-    first: &Laid,
+    first: &LaidRule,
     words: &[u16],
     one: &mut [Verdict],
-    second: &Laid,
+    second: &LaidRule,
     others: &[u16],
     two: &mut [Verdict],
 ) -> Result<bool, WorkFault> {
@@ -23,7 +23,7 @@ fn alike(
     equal(&left, &right)
 }
 
-fn check_buffers(rt: &impl Abort, laid: &Laid) {
+fn check_buffers(rt: &impl Abort, laid: &LaidRule) {
     let mut short = [BLANK; 7];
     let mut table = [BLANK; 8];
     assert_eq!(rt;
@@ -38,7 +38,7 @@ fn check_buffers(rt: &impl Abort, laid: &Laid) {
 
 // Row 0 of these rules is best after any letter; row 1 is the value of channel 1. Text, count and row 1 are each once all
 // that differs.
-fn check_answers(rt: &impl Abort, laid: &Laid, other: &Laid) {
+fn check_answers(rt: &impl Abort, laid: &LaidRule, other: &LaidRule) {
     let mut one = [BLANK; 8];
     let mut two = [Kept; 10];
     assert_eq!(rt; alike(laid, &[2], &mut one, laid, &[3], &mut two), Ok(true));
@@ -58,8 +58,8 @@ fn check_answers(rt: &impl Abort, laid: &Laid, other: &Laid) {
 
 #[test]
 fn equal_and_unequal_summaries(rt: HostRuntime) -> Result<(), Fail> {
-    let laid = lay(rt.alloc(), b"+yEyh01")?;
-    let other = lay(rt.alloc(), b"+yAyh01")?;
+    let laid = lay_rule(rt.alloc(), b"+yEyh01")?;
+    let other = lay_rule(rt.alloc(), b"+yAyh01")?;
     check_buffers(&rt, &laid);
     check_answers(&rt, &laid, &other);
     Ok(())

@@ -1,7 +1,7 @@
 // Joining two summaries into a third: what is refused and in which order, and what is written.
 use crate::shared::{BLANK, MOST, OTHER, OWN, counted, refusal, repeated, volume};
-use cells::laid::Laid;
-use cells::lay::lay;
+use cells::laid_rule::LaidRule;
+use cells::lay_rule::lay_rule;
 use monitor::join::join;
 use monitor::summary::Summary;
 use scale::verdict::Verdict;
@@ -13,7 +13,13 @@ use std::test::Fail;
 type Seen = ((u8, usize), u32, ([Verdict; 8], [Verdict; 8], [Verdict; 9]));
 
 // So many letters 0000 and a letter 000e, joined into the summary of a letter 0002.
-fn joined(first: &Laid, times: u32, second: &Laid, third: &Laid, rule: &Laid) -> Seen {
+fn joined(
+    first: &LaidRule,
+    times: u32,
+    second: &LaidRule,
+    third: &LaidRule,
+    rule: &LaidRule,
+) -> Seen {
     let mut one = [BLANK; 8];
     let mut two = [BLANK; 8];
     let mut three = [BLANK; 9];
@@ -27,11 +33,11 @@ fn joined(first: &Laid, times: u32, second: &Laid, third: &Laid, rule: &Laid) ->
 
 // Empty summaries joined in these buffers.
 fn joined_in(
-    own: &Laid,
+    own: &LaidRule,
     one: &mut [Verdict],
     two: &mut [Verdict],
     three: &mut [Verdict],
-    rule: &Laid,
+    rule: &LaidRule,
 ) -> (u8, usize) {
     let left = Summary::open(own, one);
     let right = Summary::open(own, two);
@@ -40,7 +46,7 @@ fn joined_in(
 }
 
 // Each of the three buffers too short, with another text besides.
-fn check_buffers(rt: &impl Abort, own: &Laid, other: &Laid) {
+fn check_buffers(rt: &impl Abort, own: &LaidRule, other: &LaidRule) {
     let empty = [Broken, Kept, Broken, Kept, Broken, Broken, Kept, Kept];
     let mut one = [BLANK; 8];
     let mut two = [BLANK; 8];
@@ -64,7 +70,7 @@ fn check_buffers(rt: &impl Abort, own: &Laid, other: &Laid) {
 
 // Each of the four texts is once another one, with too many letters besides; then these alone. Then as many as may be:
 // letters 0000 have rows 0 0 3 3, and 000e after them makes them 3 3 3 3.
-fn check_others(rt: &impl Abort, own: &Laid, other: &Laid) {
+fn check_others(rt: &impl Abort, own: &LaidRule, other: &LaidRule) {
     let one = [Broken, Broken, Kept, Kept, Broken, Broken, Kept, Kept];
     let three = [
         Broken, Broken, Broken, Broken, Broken, Broken, Broken, Broken, BLANK,
@@ -84,8 +90,8 @@ fn check_others(rt: &impl Abort, own: &Laid, other: &Laid) {
 
 #[test]
 fn checks_of_join(rt: HostRuntime) -> Result<(), Fail> {
-    let own = lay(rt.alloc(), OWN)?;
-    let other = lay(rt.alloc(), OTHER)?;
+    let own = lay_rule(rt.alloc(), OWN)?;
+    let other = lay_rule(rt.alloc(), OTHER)?;
     check_buffers(&rt, &own, &other);
     check_others(&rt, &own, &other);
     Ok(())

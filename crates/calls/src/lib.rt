@@ -1,6 +1,8 @@
 // Tests of the calls on watches and summaries, in a crate of their own so that the monitor is not proved twice: what each
 // call refuses and in which order, that a refused call changes nothing, which places of the buffers a call writes, what a caller
 // knows of his buffer afterwards, and whole runs. The expected values were worked out by hand, from the table of refusals and from the position rules.
+#![tactic(auto)]
+
 #[cfg(test)]
 mod afterwards;
 #[cfg(test)]

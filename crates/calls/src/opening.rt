@@ -1,15 +1,15 @@
 // Opening: the empty volume is written over the front of the buffer, or nothing where the buffer is too short. A count is
 // refused there.
 use crate::shared::{BLANK, OWN, refusal};
-use cells::laid::Laid;
-use cells::lay::lay;
+use cells::laid_rule::LaidRule;
+use cells::lay_rule::lay_rule;
 use monitor::summary::Summary;
 use monitor::watch::Watch;
 use scale::verdict::Verdict::{Broken, Kept};
 use std::process::Abort;
 use std::test::Fail;
 
-fn check_written(rt: &impl Abort, laid: &Laid) {
+fn check_written(rt: &impl Abort, laid: &LaidRule) {
     let mut row = [BLANK; 6];
     let mut table = [BLANK; 10];
     let watch = Watch::open(laid, &mut row);
@@ -25,7 +25,7 @@ fn check_written(rt: &impl Abort, laid: &Laid) {
     );
 }
 
-fn check_left(rt: &impl Abort, laid: &Laid) {
+fn check_left(rt: &impl Abort, laid: &LaidRule) {
     let mut row = [BLANK; 3];
     let mut table = [BLANK; 7];
     let watch = Watch::open(laid, &mut row);
@@ -38,7 +38,7 @@ fn check_left(rt: &impl Abort, laid: &Laid) {
 
 #[test]
 fn what_opening_writes(rt: HostRuntime) -> Result<(), Fail> {
-    let laid = lay(rt.alloc(), OWN)?;
+    let laid = lay_rule(rt.alloc(), OWN)?;
     check_written(&rt, &laid);
     check_left(&rt, &laid);
     Ok(())

@@ -1,7 +1,7 @@
 // Reading a letter: what is refused and in which order, and what is written.
 use crate::shared::{BLANK, MOST, OTHER, OWN, all_are, counted, refusal, repeat};
-use cells::laid::Laid;
-use cells::lay::lay;
+use cells::laid_rule::LaidRule;
+use cells::lay_rule::lay_rule;
 use letter::bits::Bits;
 use letter::measured::Measured;
 use monitor::summary::Summary;
@@ -34,7 +34,7 @@ fn unfit() -> Measured {
 }
 
 // The summary of so many letters of margins -1.
-fn repeated<'b>(laid: &Laid, times: u32, buffer: &'b mut [Margin]) -> Summary<'b, Margin> {
+fn repeated<'b>(laid: &LaidRule, times: u32, buffer: &'b mut [Margin]) -> Summary<'b, Margin> {
     let mut first = [blank(); 8];
     let mut second = [blank(); 8];
     let mut third = [blank(); 8];
@@ -51,9 +51,9 @@ fn repeated<'b>(laid: &Laid, times: u32, buffer: &'b mut [Margin]) -> Summary<'b
 // A watch that has read so many letters of margins -1 reads a letter: the refusal, the count afterwards, and the row with the
 // place after it.
 fn watch_reads(
-    own: &Laid,
+    own: &LaidRule,
     times: u32,
-    rule: &Laid,
+    rule: &LaidRule,
     letter: &Measured,
     spare: &mut [Margin],
 ) -> ((u8, usize), u32, [i16; 5]) {
@@ -75,9 +75,9 @@ fn watch_reads(
 
 // The same with a summary, and its table.
 fn summary_reads(
-    own: &Laid,
+    own: &LaidRule,
     times: u32,
-    rule: &Laid,
+    rule: &LaidRule,
     letter: &Measured,
     spare: &mut [Margin],
 ) -> ((u8, usize), u32, [i16; 9]) {
@@ -94,8 +94,8 @@ fn summary_reads(
 
 // A watch in a buffer that is too short: the refusal, and whether the buffer is as before.
 fn short_watch_reads(
-    own: &Laid,
-    rule: &Laid,
+    own: &LaidRule,
+    rule: &LaidRule,
     letter: &Measured,
     spare: &mut [Margin],
 ) -> ((u8, usize), bool) {
@@ -107,8 +107,8 @@ fn short_watch_reads(
 
 // The same with a summary.
 fn short_summary_reads(
-    own: &Laid,
-    rule: &Laid,
+    own: &LaidRule,
+    rule: &LaidRule,
     letter: &Measured,
     spare: &mut [Margin],
 ) -> ((u8, usize), bool) {
@@ -120,7 +120,7 @@ fn short_summary_reads(
 
 // In each call all faults that are checked later are there as well. Letters of margins -1 have rows -1 -1 1 1, and one of
 // margins 7 after them would make them 1 1 1 1.
-fn check_watch(rt: &impl Abort, own: &Laid, other: &Laid) {
+fn check_watch(rt: &impl Abort, own: &LaidRule, other: &LaidRule) {
     let mut spare = [blank(); 312];
     let mut scant = [blank(); 311];
     let row = [-1, -1, 1, 1, 5];
@@ -151,7 +151,7 @@ fn check_watch(rt: &impl Abort, own: &Laid, other: &Laid) {
     );
 }
 
-fn check_summary(rt: &impl Abort, own: &Laid, other: &Laid) {
+fn check_summary(rt: &impl Abort, own: &LaidRule, other: &LaidRule) {
     let mut spare = [blank(); 312];
     let mut scant = [blank(); 311];
     let rows = [-1, -1, 1, 1, -1, -1, 1, 1, 5];
@@ -184,8 +184,8 @@ fn check_summary(rt: &impl Abort, own: &Laid, other: &Laid) {
 
 #[test]
 fn checks_of_a_letter(rt: HostRuntime) -> Result<(), Fail> {
-    let own = lay(rt.alloc(), OWN)?;
-    let other = lay(rt.alloc(), OTHER)?;
+    let own = lay_rule(rt.alloc(), OWN)?;
+    let other = lay_rule(rt.alloc(), OTHER)?;
     check_watch(&rt, &own, &other);
     check_summary(&rt, &own, &other);
     Ok(())
@@ -193,7 +193,7 @@ fn checks_of_a_letter(rt: HostRuntime) -> Result<(), Fail> {
 
 // The row and the table after one letter 0000, in a buffer of two places more.
 fn one_letter(
-    laid: &Laid,
+    laid: &LaidRule,
     first: &mut [Verdict],
     second: &mut [Verdict],
 ) -> ([Verdict; 6], [Verdict; 10]) {
@@ -207,7 +207,7 @@ fn one_letter(
 }
 
 // Both rows of a letter 0000 are 0 0 3 3.
-fn check_written(rt: &impl Abort, laid: &Laid) {
+fn check_written(rt: &impl Abort, laid: &LaidRule) {
     let mut first = [BLANK; 315];
     let mut second = [BLANK; 312];
     let (row, table) = one_letter(laid, &mut first, &mut second);
@@ -224,7 +224,7 @@ fn check_written(rt: &impl Abort, laid: &Laid) {
 
 #[test]
 fn what_a_letter_writes(rt: HostRuntime) -> Result<(), Fail> {
-    let laid = lay(rt.alloc(), OWN)?;
+    let laid = lay_rule(rt.alloc(), OWN)?;
     check_written(&rt, &laid);
     Ok(())
 }

@@ -1,5 +1,5 @@
 // What the tests share: two rules of two cells, which differ in their text alone, and letters for them.
-use cells::laid::Laid;
+use cells::laid_rule::LaidRule;
 use fault::WorkFault;
 use letter::bits::Bits;
 use monitor::join::join;
@@ -42,7 +42,7 @@ pub(crate) fn all_are<S: Scale>(values: &[S], value: S) -> bool {
 
 // The summary of a volume of bit letters.
 pub(crate) fn volume<'b>(
-    laid: &Laid,
+    laid: &LaidRule,
     words: &[u16],
     buffer: &'b mut [Verdict],
 ) -> Summary<'b, Verdict> {
@@ -56,7 +56,7 @@ pub(crate) fn volume<'b>(
 
 // Doubles the count of a summary, and takes in a volume more.
 fn double<'a, 'b, 'c, S: Scale>(
-    laid: &Laid,
+    laid: &LaidRule,
     more: &Summary<'a, S>,
     twice: &mut Summary<'b, S>,
     summary: &mut Summary<'c, S>,
@@ -68,7 +68,7 @@ fn double<'a, 'b, 'c, S: Scale>(
 // Reads one letter's summary so many times into a fresh one: the count is doubled 30 times, with one letter more where the
 // next of the number's bits is set. Two more summaries help, of which the first is empty.
 pub(crate) fn repeat<'a, 'b, 'c, 'd, S: Scale>(
-    laid: &Laid,
+    laid: &LaidRule,
     times: u32,
     one: &Summary<'a, S>,
     none: &Summary<'b, S>,
@@ -86,7 +86,7 @@ pub(crate) fn repeat<'a, 'b, 'c, 'd, S: Scale>(
 
 // The summary of so many bit letters 0000.
 pub(crate) fn repeated<'b>(
-    laid: &Laid,
+    laid: &LaidRule,
     times: u32,
     buffer: &'b mut [Verdict],
 ) -> Summary<'b, Verdict> {

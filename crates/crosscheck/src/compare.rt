@@ -5,7 +5,7 @@ ghost use Rattle.crosscheck.specs.Agreement.{Agrees};
 use crate::counts::Counts;
 use crate::draw::Draw;
 use crate::parts::{row_buffer, rows_buffer, spare_buffer, sum_up};
-use cells::laid::Laid;
+use cells::laid_rule::LaidRule;
 use evaluator::report::judge_log;
 use fault::WorkFault;
 use letter::kind::Letter;
@@ -26,8 +26,12 @@ struct Expected<S> {
 }
 
 // What the evaluator says of a prefix.
-fn judged<S: Scale, L: Letter<Scale = S>>(heap: Global, rule: &Laid, letters: &[L]) -> Expected<S> {
-    let report = match judge_log(heap, &rule.rule, letters) {
+fn judged<S: Scale, L: Letter<Scale = S>>(
+    heap: Global,
+    rule: &LaidRule,
+    letters: &[L],
+) -> Expected<S> {
+    let report = match judge_log(heap, &rule.laid.rule, letters) {
         Ok(report) => report,
         Err(_) => None,
     };
@@ -72,7 +76,7 @@ fn agrees<S: Scale>(
 fn compare_joined<'b, S: Scale, L: Letter<Scale = S>>(
     heap: Global,
     draw: &mut Draw,
-    rule: &Laid,
+    rule: &LaidRule,
     letters: &[L],
     expected: Expected<S>,
     whole: &Summary<'b, S>,
@@ -104,7 +108,7 @@ fn compare_joined<'b, S: Scale, L: Letter<Scale = S>>(
 fn compare_applied<S: Scale, L: Letter<Scale = S>>(
     heap: Global,
     draw: &mut Draw,
-    rule: &Laid,
+    rule: &LaidRule,
     letters: &[L],
     expected: Expected<S>,
     counts: &mut Counts,
@@ -138,7 +142,7 @@ fn compare_applied<S: Scale, L: Letter<Scale = S>>(
 fn compare_prefix<'b, 'c, S: Scale, L: Letter<Scale = S>>(
     heap: Global,
     draw: &mut Draw,
-    rule: &Laid,
+    rule: &LaidRule,
     letters: &[L],
     watch: &Watch<'b, S>,
     whole: &Summary<'c, S>,
@@ -160,7 +164,7 @@ fn compare_prefix<'b, 'c, S: Scale, L: Letter<Scale = S>>(
 pub(crate) fn compare_log<S: Scale, L: Letter<Scale = S>>(
     heap: Global,
     draw: &mut Draw,
-    rule: &Laid,
+    rule: &LaidRule,
     letters: &[L],
     counts: &mut Counts,
 ) -> Result<(), AllocError> {

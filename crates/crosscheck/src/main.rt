@@ -1,6 +1,8 @@
 // crosscheck: draws rules and logs, and compares what watches and summaries report with what the evaluator does, after
 // each letter. It prints the counts that are asked for, or the true number where one is not reached; with the argument
 // `counts` it prints all true numbers.
+#![tactic(auto)]
+
 mod compare;
 mod counts;
 mod draw;
@@ -8,8 +10,8 @@ mod letters;
 mod parts;
 mod texts;
 
-use cells::laid::Laid;
-use cells::lay::lay;
+use cells::laid_rule::LaidRule;
+use cells::lay_rule::lay_rule;
 use cells::text::RuleText;
 use compare::compare_log;
 use counts::{Counts, Tally};
@@ -104,11 +106,11 @@ fn drawn_rule(
     cells: usize,
     seen: &[RuleText],
     counts: &mut Counts,
-) -> Result<Option<Laid>, AllocError> {
+) -> Result<Option<LaidRule>, AllocError> {
     for _ in 0..MOST_DRAWS {
         let text = rule_text(heap, draw)?;
-        if let Ok(rule) = lay(heap, text.as_slice()) {
-            if rule.count == cells && is_new(seen, &rule.text) {
+        if let Ok(rule) = lay_rule(heap, text.as_slice()) {
+            if rule.laid.count == cells && is_new(seen, &rule.text) {
                 return Ok(Some(rule));
             }
         }

@@ -2,7 +2,7 @@
 ghost use Rattle.std.specs.Prelude.{◌≤◌};
 
 use crate::draw::Draw;
-use cells::laid::Laid;
+use cells::laid_rule::LaidRule;
 use letter::kind::Letter;
 use monitor::join::join;
 use monitor::summary::Summary;
@@ -22,20 +22,20 @@ fn values<S: Scale>(heap: Global, count: usize) -> Result<Vec<S>, AllocError> {
 }
 
 // How many values a row has.
-fn row_length(rule: &Laid) -> usize
+fn row_length(rule: &LaidRule) -> usize
     ensures { result ≤ 256 }
 {
-    1usize << rule.count
+    1usize << rule.laid.count
 }
 
 // A buffer for a watch.
-pub(crate) fn row_buffer<S: Scale>(heap: Global, rule: &Laid) -> Result<Vec<S>, AllocError> {
+pub(crate) fn row_buffer<S: Scale>(heap: Global, rule: &LaidRule) -> Result<Vec<S>, AllocError> {
     values(heap, row_length(rule))
 }
 
 // A buffer for a summary.
-pub(crate) fn rows_buffer<S: Scale>(heap: Global, rule: &Laid) -> Result<Vec<S>, AllocError> {
-    values(heap, rule.count * row_length(rule))
+pub(crate) fn rows_buffer<S: Scale>(heap: Global, rule: &LaidRule) -> Result<Vec<S>, AllocError> {
+    values(heap, rule.laid.count * row_length(rule))
 }
 
 // A spare.
@@ -49,7 +49,7 @@ pub(crate) fn sum_up<'b, S: Scale, L: Letter<Scale = S>>(
     heap: Global,
     draw: &mut Draw,
     depth: u8,
-    rule: &Laid,
+    rule: &LaidRule,
     letters: &[L],
     summary: &mut Summary<'b, S>,
     spare: &mut [S],

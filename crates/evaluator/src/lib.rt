@@ -1,4 +1,6 @@
 // The position rules: verdict, floor and ceiling of a rule on a log.
+#![tactic(auto)]
+
 mod fold;
 mod grid;
 mod mark;

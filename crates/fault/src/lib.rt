@@ -1,4 +1,6 @@
 // Refusals: what was refused, at which place and by which layer.
+#![tactic(auto)]
+
 ghost use Rattle.std.specs.Prelude.{◌≡◌};
 ghost use Rattle.fault.specs.Faults.{number_of, place_of, cell_number_of, cell_place_of, cell_layer_of, work_number_of, work_place_of, card_number_of, card_place_of, card_layer_of};
 ghost use Rattle.fault.specs.declared.CardFault.TheVariants as card;

@@ -1,5 +1,7 @@
 // judge: reads a rule and then bit letters from standard input, and prints the report after each letter. With the argument
 // `cells` it first prints the cells of the rule.
+#![tactic(auto)]
+
 mod cell_words;
 
 use cell_words::show_cells;

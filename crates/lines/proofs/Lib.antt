@@ -1,4 +1,2 @@
 pub mod Fronts
-pub mod Lasting
 pub mod Logs
-pub mod Words

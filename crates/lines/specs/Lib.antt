@@ -1,4 +1,3 @@
 pub mod Answers
 pub mod Judging
 pub mod Kept
-pub mod Watching

@@ -1,24 +1,17 @@
 // The bytes of an answer.
-ghost use Rattle.lines.specs.Answers.{Refusal, numbers_text, refusal_text, report_text};
+ghost use Rattle.lines.specs.Answers.{Refusal, numbers_text, report_text};
 ghost use Rattle.std.specs.Prelude.{◌≡◌, IfOk, string_bytes};
 
 use fault::TextFault;
 use scale::verdict::Verdict;
 use std::alloc::{AllocError, Global};
 
-// The line for a refusal's number: `! ` and the number.
-pub fn refusal_number(heap: Global, number: u8) -> Result<String, AllocError>
-    ensures { IfOk result (λ text. string_bytes text ≡ refusal_text number) }
-{
-    format!(in heap; "! {number}\n")
-}
-
-// The line for a text's refusal.
+// The line for a refusal: `! ` and its number.
 pub fn refusal(heap: Global, fault: TextFault) -> Result<String, AllocError>
     ensures { Refusal fault result }
 {
     match fault.number() {
-        Some(number) => refusal_number(heap, number),
+        Some(number) => format!(in heap; "! {number}\n"),
         None => Err(AllocError),
     }
 }

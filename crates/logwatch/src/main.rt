@@ -1,13 +1,15 @@
 // logwatch: reads a rule and then bit letters from standard input, a line each, and prints a line for each letter.
-use cells::laid::Laid;
+#![tactic(auto)]
+
+use cells::laid_rule::LaidRule;
 use lines::line::Line;
-use lines::opened::Opened;
-use lines::watching::{rule_line, watch_line};
 use monitor::watch::Watch;
 use scale::verdict::Verdict;
 use std::alloc::Global;
 use std::io;
 use std::io::{BufRead, BufReader, BufWriter, Stdin, Stdout, Write};
+use watch_lines::opened::Opened;
+use watch_lines::watching::{rule_line, watch_line};
 
 // The standard streams: what is read ahead, and what is still to be written.
 #[derive(Drop)]
@@ -52,7 +54,7 @@ fn next_line(streams: &mut Streams) -> io::Result<(Line, bool)> {
 }
 
 // Lets a watch read the letters, a line each, to the input's end; an empty tail is no line.
-fn watch_log(heap: Global, rule: &Laid, streams: &mut Streams) -> io::Result<()> {
+fn watch_log(heap: Global, rule: &LaidRule, streams: &mut Streams) -> io::Result<()> {
     let mut table = [Verdict::Broken; 256];
     let mut spare = [Verdict::Broken; 312];
     let mut watch = Watch::open(rule, &mut table);

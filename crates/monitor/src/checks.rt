@@ -8,7 +8,7 @@ ghost use Rattle.fault.specs.declared.WorkFault.TheVariants.{Refused};
 
 use crate::head::Head;
 use crate::rows::{SPARE, corners};
-use cells::laid::Laid;
+use cells::laid_rule::LaidRule;
 use fault::{WorkCause, WorkFault};
 use letter::kind::Letter;
 
@@ -24,8 +24,8 @@ fn rows_short(head: &Head, count: usize, room: usize) -> bool
 }
 
 // Has the rule of a call another text than the head.
-fn text_differs(rule: &Laid, head: &Head) -> bool
-    ensures { result ≡ other_text (rule_of rule.now.rule) head.now }
+fn text_differs(rule: &LaidRule, head: &Head) -> bool
+    ensures { result ≡ other_text (rule_of rule.now.laid.rule) head.now }
 {
     !rule.text.same(&head.text)
 }
@@ -39,7 +39,7 @@ fn refused(cause: WorkCause) -> Result<(), WorkFault>
 
 // The checks of a letter for so many rows.
 pub(crate) fn check_letter<L: Letter>(
-    rule: &Laid,
+    rule: &LaidRule,
     head: &Head,
     count: usize,
     room: usize,
@@ -48,8 +48,8 @@ pub(crate) fn check_letter<L: Letter>(
     spare: usize,
 ) -> Result<(), WorkFault>
     requires { count ≤ 8 }
-    ensures answer { result ≡ letter_check (rule_of rule.now.rule) head.now count room letters (L.Letter.heard letter.now).unfit spare }
-    ensures room { result ≡ Ok tt → (own head.now ≡ rule_of rule.now.rule) × (count * 2 ^ rule.now.count ≤ room) × (312 ≤ spare) × (letters + 1 ≤ 1000000000) }
+    ensures answer { result ≡ letter_check (rule_of rule.now.laid.rule) head.now count room letters (L.Letter.heard letter.now).unfit spare }
+    ensures room { result ≡ Ok tt → (own head.now ≡ rule_of rule.now.laid.rule) × (count * 2 ^ rule.now.laid.count ≤ room) × (312 ≤ spare) × (letters + 1 ≤ 1000000000) }
 {
     if rows_short(head, count, room) {
         return refused(WorkCause::BufferShort);
@@ -85,7 +85,7 @@ fn too_many(first: u32, second: u32) -> bool
 
 // The checks of an apply: a summary's head, buffer and count onto a watch's.
 pub(crate) fn check_apply(
-    rule: &Laid,
+    rule: &LaidRule,
     watch: &Head,
     room: usize,
     summary: &Head,
@@ -93,8 +93,8 @@ pub(crate) fn check_apply(
     counts: (u32, u32),
     spare: usize,
 ) -> Result<(), WorkFault>
-    ensures answer { result ≡ apply_check (rule_of rule.now.rule) watch.now room summary.now space (counts.0 + counts.1) spare }
-    ensures room { result ≡ Ok tt → (own watch.now ≡ rule_of rule.now.rule) × (own summary.now ≡ rule_of rule.now.rule) × (1 * 2 ^ rule.now.count ≤ room) × (rule.now.count * 2 ^ rule.now.count ≤ space) × (312 ≤ spare) × (counts.0 + counts.1 ≤ 1000000000) }
+    ensures answer { result ≡ apply_check (rule_of rule.now.laid.rule) watch.now room summary.now space (counts.0 + counts.1) spare }
+    ensures room { result ≡ Ok tt → (own watch.now ≡ rule_of rule.now.laid.rule) × (own summary.now ≡ rule_of rule.now.laid.rule) × (1 * 2 ^ rule.now.laid.count ≤ room) × (rule.now.laid.count * 2 ^ rule.now.laid.count ≤ space) × (312 ≤ spare) × (counts.0 + counts.1 ≤ 1000000000) }
 {
     if rows_short(watch, 1, room) || summary_is_short(summary, space) {
         return refused(WorkCause::BufferShort);
@@ -113,14 +113,14 @@ pub(crate) fn check_apply(
 
 // The checks of a join: the heads of the three summaries with the sizes of their buffers, and the counts of the first two.
 pub(crate) fn check_join(
-    rule: &Laid,
+    rule: &LaidRule,
     first: (&Head, usize),
     second: (&Head, usize),
     third: (&Head, usize),
     counts: (u32, u32),
 ) -> Result<(), WorkFault>
-    ensures answer { result ≡ join_check (rule_of rule.now.rule) first.entry.0.now first.entry.1 second.entry.0.now second.entry.1 third.entry.0.now third.entry.1 (counts.0 + counts.1) }
-    ensures room { result ≡ Ok tt → (own first.entry.0.now ≡ rule_of rule.now.rule) × (own second.entry.0.now ≡ rule_of rule.now.rule) × (own third.entry.0.now ≡ rule_of rule.now.rule) × (rule.now.count * 2 ^ rule.now.count ≤ first.entry.1) × (rule.now.count * 2 ^ rule.now.count ≤ second.entry.1) × (rule.now.count * 2 ^ rule.now.count ≤ third.entry.1) × (counts.0 + counts.1 ≤ 1000000000) }
+    ensures answer { result ≡ join_check (rule_of rule.now.laid.rule) first.entry.0.now first.entry.1 second.entry.0.now second.entry.1 third.entry.0.now third.entry.1 (counts.0 + counts.1) }
+    ensures room { result ≡ Ok tt → (own first.entry.0.now ≡ rule_of rule.now.laid.rule) × (own second.entry.0.now ≡ rule_of rule.now.laid.rule) × (own third.entry.0.now ≡ rule_of rule.now.laid.rule) × (rule.now.laid.count * 2 ^ rule.now.laid.count ≤ first.entry.1) × (rule.now.laid.count * 2 ^ rule.now.laid.count ≤ second.entry.1) × (rule.now.laid.count * 2 ^ rule.now.laid.count ≤ third.entry.1) × (counts.0 + counts.1 ≤ 1000000000) }
 {
     if summary_is_short(first.0, first.1)
         || summary_is_short(second.0, second.1)
@@ -139,15 +139,15 @@ pub(crate) fn check_join(
 
 // The checks of a report on so many rows.
 pub(crate) fn check_report(
-    rule: &Laid,
+    rule: &LaidRule,
     head: &Head,
     count: usize,
     room: usize,
     letters: u32,
 ) -> Result<(), WorkFault>
     requires { count ≤ 8 }
-    ensures answer { result ≡ report_check (rule_of rule.now.rule) head.now count room letters }
-    ensures room { result ≡ Ok tt → (own head.now ≡ rule_of rule.now.rule) × (count * 2 ^ rule.now.count ≤ room) }
+    ensures answer { result ≡ report_check (rule_of rule.now.laid.rule) head.now count room letters }
+    ensures room { result ≡ Ok tt → (own head.now ≡ rule_of rule.now.laid.rule) × (count * 2 ^ rule.now.laid.count ≤ room) }
 {
     if rows_short(head, count, room) {
         return refused(WorkCause::BufferShort);

@@ -11,19 +11,19 @@ use crate::adding::add_rows;
 use crate::checks::check_join;
 use crate::count::Count;
 use crate::summary::Summary;
-use cells::laid::Laid;
+use cells::laid_rule::LaidRule;
 use fault::WorkFault;
 use scale::order::Scale;
 
 // The answer of join.
 fn joined<'a, 'b, 'c, S: Scale>(
-    rule: &Laid,
+    rule: &LaidRule,
     first: &Summary<'a, S>,
     second: &Summary<'b, S>,
     third: &mut Summary<'c, S>,
 ) -> Result<(), WorkFault>
-    ensures answer { result ≡ join_answer S.Scale.algebra (rule_of rule.now.rule) (summary_state first.now) (summary_state second.now) (summary_state third.old) }
-    ensures state { summary_state third.new ≡ join_state S.Scale.algebra (rule_of rule.now.rule) (summary_state first.now) (summary_state second.now) (summary_state third.old) }
+    ensures answer { result ≡ join_answer S.Scale.algebra (rule_of rule.now.laid.rule) (summary_state first.now) (summary_state second.now) (summary_state third.old) }
+    ensures state { summary_state third.new ≡ join_state S.Scale.algebra (rule_of rule.now.laid.rule) (summary_state first.now) (summary_state second.now) (summary_state third.old) }
     ensures buffer { third.new.table.ghost_name ≡ third.old.table.ghost_name }
 {
     let left: &[S] = first.table;
@@ -39,7 +39,7 @@ fn joined<'a, 'b, 'c, S: Scale>(
     ) {
         return Err(fault);
     }
-    add_rows(rule.count, left, right, third.table);
+    add_rows(rule.laid.count, left, right, third.table);
     third.count = Count {
         number: counts.0 + counts.1,
     };
@@ -48,13 +48,13 @@ fn joined<'a, 'b, 'c, S: Scale>(
 
 // Joins two summaries of neighbouring volumes into a third, which then is the summary of both, one after the other.
 pub fn join<'a, 'b, 'c, S: Scale>(
-    rule: &Laid,
+    rule: &LaidRule,
     first: &Summary<'a, S>,
     second: &Summary<'b, S>,
     third: &mut Summary<'c, S>,
 ) -> Result<(), WorkFault>
-    ensures answer { result ≡ join_answer S.Scale.algebra (rule_of rule.now.rule) (summary_state first.now) (summary_state second.now) (summary_state third.old) }
-    ensures state { summary_state third.new ≡ join_state S.Scale.algebra (rule_of rule.now.rule) (summary_state first.now) (summary_state second.now) (summary_state third.old) }
+    ensures answer { result ≡ join_answer S.Scale.algebra (rule_of rule.now.laid.rule) (summary_state first.now) (summary_state second.now) (summary_state third.old) }
+    ensures state { summary_state third.new ≡ join_state S.Scale.algebra (rule_of rule.now.laid.rule) (summary_state first.now) (summary_state second.now) (summary_state third.old) }
     ensures buffer { third.new.table.ghost_name ≡ third.old.table.ghost_name }
     ensures built { (left right volume : List (Heard S)) → Built S.Scale.algebra (summary_state third.old) volume → (result ≡ Ok tt → Built S.Scale.algebra (summary_state first.now) left) → (result ≡ Ok tt → Built S.Scale.algebra (summary_state second.now) right) → Built S.Scale.algebra (summary_state third.new) (after result (left ++ right) volume) }
     ensures law { SummaryLaw S.Scale.algebra (summary_state third.new) }

@@ -2,6 +2,8 @@
 // summaries and reports; a summary (summary, its calls in summing) does so for a volume; two summaries are joined into a third
 // (join) or compared (equal). Beneath: heads (head, heading), the checks of the calls (checks), and the work on rows (rows,
 // opening, reading, adding, telling).
+#![tactic(auto)]
+
 mod adding;
 mod checks;
 pub mod count;

@@ -17,15 +17,15 @@ use crate::reading::read_rows;
 use crate::rows::corners;
 use crate::summary::Summary;
 use crate::telling::tell;
-use cells::laid::Laid;
+use cells::laid_rule::LaidRule;
 use fault::{WorkCause, WorkFault};
 use letter::kind::Letter;
 use scale::order::Scale;
 
 impl<'b, S: Scale> Summary<'b, S> {
     // Opens a summary: the answer of open.
-    fn opening(rule: &Laid, buffer: &'b mut [S]) -> Summary<'b, S>
-        ensures state { summary_state result ≡ opened S.Scale.algebra a_summary (rule_of rule.now.rule) buffer.old }
+    fn opening(rule: &LaidRule, buffer: &'b mut [S]) -> Summary<'b, S>
+        ensures state { summary_state result ≡ opened S.Scale.algebra a_summary (rule_of rule.now.laid.rule) buffer.old }
         ensures buffer { result.table.ghost_name ≡ buffer.entry.ghost_name }
     {
         let head = head_of(rule);
@@ -42,13 +42,13 @@ impl<'b, S: Scale> Summary<'b, S> {
     // Reads a letter: the answer of letter.
     fn read<L: Letter<Scale = S>>(
         &mut self,
-        rule: &Laid,
+        rule: &LaidRule,
         letter: &L,
         spare: &mut [S],
     ) -> Result<(), WorkFault>
-        ensures answer { result ≡ letter_answer S.Scale.algebra a_summary (rule_of rule.now.rule) (summary_state self.old) (L.Letter.heard letter.now) spare.old }
-        ensures state { summary_state self.new ≡ letter_state S.Scale.algebra a_summary (rule_of rule.now.rule) (summary_state self.old) (L.Letter.heard letter.now) spare.old }
-        ensures spare { spare.new ≡ letter_spare S.Scale.algebra a_summary (rule_of rule.now.rule) (summary_state self.old) (L.Letter.heard letter.now) spare.old }
+        ensures answer { result ≡ letter_answer S.Scale.algebra a_summary (rule_of rule.now.laid.rule) (summary_state self.old) (L.Letter.heard letter.now) spare.old }
+        ensures state { summary_state self.new ≡ letter_state S.Scale.algebra a_summary (rule_of rule.now.laid.rule) (summary_state self.old) (L.Letter.heard letter.now) spare.old }
+        ensures spare { spare.new ≡ letter_spare S.Scale.algebra a_summary (rule_of rule.now.laid.rule) (summary_state self.old) (L.Letter.heard letter.now) spare.old }
         ensures buffer { self.new.table.ghost_name ≡ self.old.table.ghost_name }
     {
         let room = self.table.len();
@@ -57,14 +57,14 @@ impl<'b, S: Scale> Summary<'b, S> {
         if let Err(fault) = check_letter(rule, &self.head, rows, room, count, letter, spare.len()) {
             return Err(fault);
         }
-        read_rows(rule, letter, rows, self.table, spare);
+        read_rows(&rule.laid, letter, rows, self.table, spare);
         self.count = Count { number: count + 1 };
         Ok(())
     }
 
     // Reports: the answer of report.
-    fn told(&self, rule: &Laid) -> Result<(S, S, S), WorkFault>
-        ensures { result ≡ report_answer S.Scale.algebra a_summary (rule_of rule.now.rule) (summary_state self.now) }
+    fn told(&self, rule: &LaidRule) -> Result<(S, S, S), WorkFault>
+        ensures { result ≡ report_answer S.Scale.algebra a_summary (rule_of rule.now.laid.rule) (summary_state self.now) }
     {
         let table: &[S] = self.table;
         if let Err(fault) = check_report(
@@ -76,12 +76,12 @@ impl<'b, S: Scale> Summary<'b, S> {
         ) {
             return Err(fault);
         }
-        Ok(tell(rule, table))
+        Ok(tell(&rule.laid, table))
     }
 
     // Opens a summary for a rule over a buffer: it writes the empty volume, or nothing where the buffer is too short.
-    pub fn open(rule: &Laid, buffer: &'b mut [S]) -> Summary<'b, S>
-        ensures state { summary_state result ≡ opened S.Scale.algebra a_summary (rule_of rule.now.rule) buffer.old }
+    pub fn open(rule: &LaidRule, buffer: &'b mut [S]) -> Summary<'b, S>
+        ensures state { summary_state result ≡ opened S.Scale.algebra a_summary (rule_of rule.now.laid.rule) buffer.old }
         ensures buffer { result.table.ghost_name ≡ buffer.entry.ghost_name }
         ensures built { Built S.Scale.algebra (summary_state result) [] }
         ensures law { SummaryLaw S.Scale.algebra (summary_state result) }
@@ -92,13 +92,13 @@ impl<'b, S: Scale> Summary<'b, S> {
     // Reads a letter.
     pub fn letter<L: Letter<Scale = S>>(
         &mut self,
-        rule: &Laid,
+        rule: &LaidRule,
         letter: &L,
         spare: &mut [S],
     ) -> Result<(), WorkFault>
-        ensures answer { result ≡ letter_answer S.Scale.algebra a_summary (rule_of rule.now.rule) (summary_state self.old) (L.Letter.heard letter.now) spare.old }
-        ensures state { summary_state self.new ≡ letter_state S.Scale.algebra a_summary (rule_of rule.now.rule) (summary_state self.old) (L.Letter.heard letter.now) spare.old }
-        ensures spare { spare.new ≡ letter_spare S.Scale.algebra a_summary (rule_of rule.now.rule) (summary_state self.old) (L.Letter.heard letter.now) spare.old }
+        ensures answer { result ≡ letter_answer S.Scale.algebra a_summary (rule_of rule.now.laid.rule) (summary_state self.old) (L.Letter.heard letter.now) spare.old }
+        ensures state { summary_state self.new ≡ letter_state S.Scale.algebra a_summary (rule_of rule.now.laid.rule) (summary_state self.old) (L.Letter.heard letter.now) spare.old }
+        ensures spare { spare.new ≡ letter_spare S.Scale.algebra a_summary (rule_of rule.now.laid.rule) (summary_state self.old) (L.Letter.heard letter.now) spare.old }
         ensures buffer { self.new.table.ghost_name ≡ self.old.table.ghost_name }
         ensures built { (volume : List (Heard S)) → Built S.Scale.algebra (summary_state self.old) volume → Built S.Scale.algebra (summary_state self.new) (after result (volume ++ L.Letter.heard letter.now ∷ []) volume) }
         ensures law { SummaryLaw S.Scale.algebra (summary_state self.new) }
@@ -107,8 +107,8 @@ impl<'b, S: Scale> Summary<'b, S> {
     }
 
     // Verdict, floor and ceiling together.
-    pub fn report(&self, rule: &Laid) -> Result<(S, S, S), WorkFault>
-        ensures answer { result ≡ report_answer S.Scale.algebra a_summary (rule_of rule.now.rule) (summary_state self.now) }
+    pub fn report(&self, rule: &LaidRule) -> Result<(S, S, S), WorkFault>
+        ensures answer { result ≡ report_answer S.Scale.algebra a_summary (rule_of rule.now.laid.rule) (summary_state self.now) }
         ensures law { SummaryLaw S.Scale.algebra (summary_state self.now) }
     {
         self.told(rule)

@@ -19,15 +19,15 @@ use crate::rows::corners;
 use crate::summary::Summary;
 use crate::telling::tell;
 use crate::watch::Watch;
-use cells::laid::Laid;
+use cells::laid_rule::LaidRule;
 use fault::{WorkCause, WorkFault};
 use letter::kind::Letter;
 use scale::order::Scale;
 
 impl<'b, S: Scale> Watch<'b, S> {
     // Opens a watch: the answer of open.
-    fn opening(rule: &Laid, buffer: &'b mut [S]) -> Watch<'b, S>
-        ensures state { watch_state result ≡ opened S.Scale.algebra a_watch (rule_of rule.now.rule) buffer.old }
+    fn opening(rule: &LaidRule, buffer: &'b mut [S]) -> Watch<'b, S>
+        ensures state { watch_state result ≡ opened S.Scale.algebra a_watch (rule_of rule.now.laid.rule) buffer.old }
         ensures buffer { result.table.ghost_name ≡ buffer.entry.ghost_name }
     {
         let head = head_of(rule);
@@ -44,13 +44,13 @@ impl<'b, S: Scale> Watch<'b, S> {
     // Reads a letter: the answer of letter.
     fn read<L: Letter<Scale = S>>(
         &mut self,
-        rule: &Laid,
+        rule: &LaidRule,
         letter: &L,
         spare: &mut [S],
     ) -> Result<(), WorkFault>
-        ensures answer { result ≡ letter_answer S.Scale.algebra a_watch (rule_of rule.now.rule) (watch_state self.old) (L.Letter.heard letter.now) spare.old }
-        ensures state { watch_state self.new ≡ letter_state S.Scale.algebra a_watch (rule_of rule.now.rule) (watch_state self.old) (L.Letter.heard letter.now) spare.old }
-        ensures spare { spare.new ≡ letter_spare S.Scale.algebra a_watch (rule_of rule.now.rule) (watch_state self.old) (L.Letter.heard letter.now) spare.old }
+        ensures answer { result ≡ letter_answer S.Scale.algebra a_watch (rule_of rule.now.laid.rule) (watch_state self.old) (L.Letter.heard letter.now) spare.old }
+        ensures state { watch_state self.new ≡ letter_state S.Scale.algebra a_watch (rule_of rule.now.laid.rule) (watch_state self.old) (L.Letter.heard letter.now) spare.old }
+        ensures spare { spare.new ≡ letter_spare S.Scale.algebra a_watch (rule_of rule.now.laid.rule) (watch_state self.old) (L.Letter.heard letter.now) spare.old }
         ensures buffer { self.new.table.ghost_name ≡ self.old.table.ghost_name }
     {
         let room = self.table.len();
@@ -58,7 +58,7 @@ impl<'b, S: Scale> Watch<'b, S> {
         if let Err(fault) = check_letter(rule, &self.head, 1, room, count, letter, spare.len()) {
             return Err(fault);
         }
-        read_rows(rule, letter, 1, self.table, spare);
+        read_rows(&rule.laid, letter, 1, self.table, spare);
         self.count = Count { number: count + 1 };
         Ok(())
     }
@@ -66,13 +66,13 @@ impl<'b, S: Scale> Watch<'b, S> {
     // Takes in a summary: the answer of apply.
     fn take_in<'c>(
         &mut self,
-        rule: &Laid,
+        rule: &LaidRule,
         summary: &Summary<'c, S>,
         spare: &mut [S],
     ) -> Result<(), WorkFault>
-        ensures answer { result ≡ apply_answer S.Scale.algebra (rule_of rule.now.rule) (watch_state self.old) (summary_state summary.now) spare.old }
-        ensures state { watch_state self.new ≡ apply_state S.Scale.algebra (rule_of rule.now.rule) (watch_state self.old) (summary_state summary.now) spare.old }
-        ensures spare { spare.new ≡ apply_spare S.Scale.algebra (rule_of rule.now.rule) (watch_state self.old) (summary_state summary.now) spare.old }
+        ensures answer { result ≡ apply_answer S.Scale.algebra (rule_of rule.now.laid.rule) (watch_state self.old) (summary_state summary.now) spare.old }
+        ensures state { watch_state self.new ≡ apply_state S.Scale.algebra (rule_of rule.now.laid.rule) (watch_state self.old) (summary_state summary.now) spare.old }
+        ensures spare { spare.new ≡ apply_spare S.Scale.algebra (rule_of rule.now.laid.rule) (watch_state self.old) (summary_state summary.now) spare.old }
         ensures buffer { self.new.table.ghost_name ≡ self.old.table.ghost_name }
     {
         let room = self.table.len();
@@ -90,7 +90,7 @@ impl<'b, S: Scale> Watch<'b, S> {
         ) {
             return Err(fault);
         }
-        add_row(rule.count, self.table, rows, spare);
+        add_row(rule.laid.count, self.table, rows, spare);
         self.count = Count {
             number: count + more,
         };
@@ -98,21 +98,21 @@ impl<'b, S: Scale> Watch<'b, S> {
     }
 
     // Reports: the answer of report.
-    fn told(&self, rule: &Laid) -> Result<(S, S, S), WorkFault>
-        ensures { result ≡ report_answer S.Scale.algebra a_watch (rule_of rule.now.rule) (watch_state self.now) }
+    fn told(&self, rule: &LaidRule) -> Result<(S, S, S), WorkFault>
+        ensures { result ≡ report_answer S.Scale.algebra a_watch (rule_of rule.now.laid.rule) (watch_state self.now) }
     {
         let table: &[S] = self.table;
         if let Err(fault) = check_report(rule, &self.head, 1, table.len(), self.count.number) {
             return Err(fault);
         }
-        Ok(tell(rule, table))
+        Ok(tell(&rule.laid, table))
     }
 
     // Opens a watch for a rule over a buffer: it writes the empty volume, or nothing where the buffer is too short.
-    pub fn open(rule: &Laid, buffer: &'b mut [S]) -> Watch<'b, S>
-        ensures state { watch_state result ≡ opened S.Scale.algebra a_watch (rule_of rule.now.rule) buffer.old }
+    pub fn open(rule: &LaidRule, buffer: &'b mut [S]) -> Watch<'b, S>
+        ensures state { watch_state result ≡ opened S.Scale.algebra a_watch (rule_of rule.now.laid.rule) buffer.old }
         ensures buffer { result.table.ghost_name ≡ buffer.entry.ghost_name }
-        ensures run { table_size a_watch (rule_of rule.now.rule) ≤ length buffer.old → Run S.Scale.algebra (watch_state result) [] [] }
+        ensures run { table_size a_watch (rule_of rule.now.laid.rule) ≤ length buffer.old → Run S.Scale.algebra (watch_state result) [] [] }
         ensures law { WatchLaw S.Scale.algebra (watch_state result) }
     {
         Watch::opening(rule, buffer)
@@ -121,13 +121,13 @@ impl<'b, S: Scale> Watch<'b, S> {
     // Reads a letter.
     pub fn letter<L: Letter<Scale = S>>(
         &mut self,
-        rule: &Laid,
+        rule: &LaidRule,
         letter: &L,
         spare: &mut [S],
     ) -> Result<(), WorkFault>
-        ensures answer { result ≡ letter_answer S.Scale.algebra a_watch (rule_of rule.now.rule) (watch_state self.old) (L.Letter.heard letter.now) spare.old }
-        ensures state { watch_state self.new ≡ letter_state S.Scale.algebra a_watch (rule_of rule.now.rule) (watch_state self.old) (L.Letter.heard letter.now) spare.old }
-        ensures spare { spare.new ≡ letter_spare S.Scale.algebra a_watch (rule_of rule.now.rule) (watch_state self.old) (L.Letter.heard letter.now) spare.old }
+        ensures answer { result ≡ letter_answer S.Scale.algebra a_watch (rule_of rule.now.laid.rule) (watch_state self.old) (L.Letter.heard letter.now) spare.old }
+        ensures state { watch_state self.new ≡ letter_state S.Scale.algebra a_watch (rule_of rule.now.laid.rule) (watch_state self.old) (L.Letter.heard letter.now) spare.old }
+        ensures spare { spare.new ≡ letter_spare S.Scale.algebra a_watch (rule_of rule.now.laid.rule) (watch_state self.old) (L.Letter.heard letter.now) spare.old }
         ensures buffer { self.new.table.ghost_name ≡ self.old.table.ghost_name }
         ensures run { (log : List (Heard S)) (reports : List (Report S)) → Run S.Scale.algebra (watch_state self.old) log reports → Run S.Scale.algebra (watch_state self.new) (after result (log ++ L.Letter.heard letter.now ∷ []) log) reports }
         ensures law { WatchLaw S.Scale.algebra (watch_state self.new) }
@@ -139,13 +139,13 @@ impl<'b, S: Scale> Watch<'b, S> {
     // Takes in a summary: its volume comes after what the watch has read.
     pub fn apply<'c>(
         &mut self,
-        rule: &Laid,
+        rule: &LaidRule,
         summary: &Summary<'c, S>,
         spare: &mut [S],
     ) -> Result<(), WorkFault>
-        ensures answer { result ≡ apply_answer S.Scale.algebra (rule_of rule.now.rule) (watch_state self.old) (summary_state summary.now) spare.old }
-        ensures state { watch_state self.new ≡ apply_state S.Scale.algebra (rule_of rule.now.rule) (watch_state self.old) (summary_state summary.now) spare.old }
-        ensures spare { spare.new ≡ apply_spare S.Scale.algebra (rule_of rule.now.rule) (watch_state self.old) (summary_state summary.now) spare.old }
+        ensures answer { result ≡ apply_answer S.Scale.algebra (rule_of rule.now.laid.rule) (watch_state self.old) (summary_state summary.now) spare.old }
+        ensures state { watch_state self.new ≡ apply_state S.Scale.algebra (rule_of rule.now.laid.rule) (watch_state self.old) (summary_state summary.now) spare.old }
+        ensures spare { spare.new ≡ apply_spare S.Scale.algebra (rule_of rule.now.laid.rule) (watch_state self.old) (summary_state summary.now) spare.old }
         ensures buffer { self.new.table.ghost_name ≡ self.old.table.ghost_name }
         ensures run { (log : List (Heard S)) (reports : List (Report S)) (volume : List (Heard S)) → Run S.Scale.algebra (watch_state self.old) log reports → (result ≡ Ok tt → Built S.Scale.algebra (summary_state summary.now) volume) → Run S.Scale.algebra (watch_state self.new) (after result (log ++ volume) log) reports }
         ensures law { WatchLaw S.Scale.algebra (watch_state self.new) }
@@ -155,8 +155,8 @@ impl<'b, S: Scale> Watch<'b, S> {
     }
 
     // Verdict, floor and ceiling together.
-    pub fn report(&self, rule: &Laid) -> Result<(S, S, S), WorkFault>
-        ensures answer { result ≡ report_answer S.Scale.algebra a_watch (rule_of rule.now.rule) (watch_state self.now) }
+    pub fn report(&self, rule: &LaidRule) -> Result<(S, S, S), WorkFault>
+        ensures answer { result ≡ report_answer S.Scale.algebra a_watch (rule_of rule.now.laid.rule) (watch_state self.now) }
         ensures run { (log : List (Heard S)) (reports : List (Report S)) → Run S.Scale.algebra (watch_state self.now) log reports → Run S.Scale.algebra (watch_state self.now) log (noted reports log result) }
         ensures law { WatchLaw S.Scale.algebra (watch_state self.now) }
         ensures bits { BitLaw }

@@ -1,4 +1,6 @@
 // Rule texts: what a rule is, how it is spelled, and the reader that turns bytes into a rule or a refusal.
+#![tactic(auto)]
+
 mod build;
 mod cursor;
 mod head;

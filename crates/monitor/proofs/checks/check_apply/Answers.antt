@@ -6,7 +6,7 @@ use Rattle.std.proofs.lemmas.Bool.{ltb-false}
 
 pub returns : goal.returns
 returns c =
-    let laid = c.args.rule.now in
+    let laid = c.args.rule.now.laid in
     let watch = c.args.watch.now in
     let summary = c.args.summary.now in
     let own = rule_of laid.rule in

@@ -6,7 +6,7 @@ use Rattle.std.proofs.lemmas.Bool.{ltb-false}
 
 pub returns : goal.returns
 returns c =
-    let laid = c.args.rule.now in
+    let laid = c.args.rule.now.laid in
     let own = rule_of laid.rule in
     let first = c.args.first.0.now in
     let second = c.args.second.0.now in

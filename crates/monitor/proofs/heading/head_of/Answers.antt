@@ -8,11 +8,15 @@ use Rattle.runs.specs.States.{cells_of_rule}
 
 pub invariant_of-result : goal.invariant_of-result
 invariant_of-result c =
-    let laid = c.args.rule.now in
-    let e = names (text_of laid.text) (rule_of laid.rule) laid.spells in
-    (laid.spells ∙ ap spelled (sym e), (laid.counted ∙ ap cells_of_rule (sym e), (laid.few, tt)))
+    let rule = c.args.rule.now in
+    let e = names (text_of rule.text) (rule_of rule.laid.rule) rule.spells in
+    record {
+      spells = rule.spells ∙ ap spelled (sym e);
+      counted = rule.laid.counted ∙ ap cells_of_rule (sym e);
+      few = rule.laid.few;
+    }
 
 pub returns : goal.returns
 returns c =
-    let laid = c.args.rule.now in
-    record { named = names (text_of laid.text) (rule_of laid.rule) laid.spells; cells = refl }
+    let rule = c.args.rule.now in
+    record { named = names (text_of rule.text) (rule_of rule.laid.rule) rule.spells; cells = refl }

@@ -14,7 +14,7 @@ returns g c =
       answer = c.joined.ensures.answer;
       state = c.joined.ensures.state;
       buffer = c.joined.ensures.buffer;
-      built = built_join A (summary_state c.args.third.now) left c.joined.result (rule_of c.args.rule.now.rule)
+      built = built_join A (summary_state c.args.third.now) left c.joined.result (rule_of c.args.rule.now.laid.rule)
           (summary_state c.args.first.now) (summary_state c.args.second.now) c.joined.ensures.answer c.joined.ensures.state;
       law = summary_law laws (engine laws) left;
     }

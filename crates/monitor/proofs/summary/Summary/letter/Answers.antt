@@ -15,7 +15,7 @@ returns g c =
       state = c.read.ensures.state;
       spare = c.read.ensures.spare;
       buffer = c.read.ensures.buffer;
-      built = built_letter A (summary_state c.args.self.now) left c.read.result (rule_of c.args.rule.now.rule)
+      built = built_letter A (summary_state c.args.self.now) left c.read.result (rule_of c.args.rule.now.laid.rule)
           (g.L.Letter.heard c.args.letter.now) c.args.spare.now c.read.ensures.answer c.read.ensures.state;
       law = summary_law laws (engine laws) left;
     }

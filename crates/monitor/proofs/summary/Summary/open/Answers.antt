@@ -13,6 +13,6 @@ returns g c =
     record {
       state = c.opening.ensures.state;
       buffer = c.opening.ensures.buffer;
-      built = built_opened A left (rule_of c.args.rule.now.rule) c.args.buffer.now c.opening.ensures.state;
+      built = built_opened A left (rule_of c.args.rule.now.laid.rule) c.args.buffer.now c.opening.ensures.state;
       law = summary_law laws (engine laws) left;
     }

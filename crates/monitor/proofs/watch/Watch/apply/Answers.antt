@@ -16,7 +16,7 @@ returns g c =
       state = c.take_in.ensures.state;
       spare = c.take_in.ensures.spare;
       buffer = c.take_in.ensures.buffer;
-      run = run_apply A (watch_state c.args.self.now) left c.take_in.result (rule_of c.args.rule.now.rule)
+      run = run_apply A (watch_state c.args.self.now) left c.take_in.result (rule_of c.args.rule.now.laid.rule)
           (summary_state c.args.summary.now) c.args.spare.now c.take_in.ensures.answer c.take_in.ensures.state;
       law = watch_law laws (engine laws) left;
       bits = bit_law (engine verdicts_lawful);

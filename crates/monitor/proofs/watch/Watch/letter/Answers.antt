@@ -16,7 +16,7 @@ returns g c =
       state = c.read.ensures.state;
       spare = c.read.ensures.spare;
       buffer = c.read.ensures.buffer;
-      run = run_letter A (watch_state c.args.self.now) left c.read.result (rule_of c.args.rule.now.rule)
+      run = run_letter A (watch_state c.args.self.now) left c.read.result (rule_of c.args.rule.now.laid.rule)
           (g.L.Letter.heard c.args.letter.now) c.args.spare.now c.read.ensures.answer c.read.ensures.state;
       law = watch_law laws (engine laws) left;
       bits = bit_law (engine verdicts_lawful);

@@ -8,7 +8,7 @@ pub returns : goal.returns
 returns g c =
     let A = g.S.Scale.algebra in
     let self = c.args.self.now in
-    let laid = c.args.rule.now in
+    let laid = c.args.rule.now.laid in
     let r = rule_of laid.rule in
     let l = g.L.Letter.heard c.args.letter.now in
     let checked = c.in_default.ensures.answer in

@@ -13,7 +13,7 @@ returns g c =
     let asked = watch_state c.args.self.now in
     record {
       answer = c.told.ensures;
-      run = run_report A asked c.told.result (rule_of c.args.rule.now.rule) c.told.ensures;
+      run = run_report A asked c.told.result (rule_of c.args.rule.now.laid.rule) c.told.ensures;
       law = watch_law laws (engine laws) asked;
       bits = bit_law (engine verdicts_lawful);
     }

@@ -1,7 +1,6 @@
 -- What `logwatch` answers to the rule's line and to a letter's line. Assumes nothing.
 use Rattle.std.specs.Prelude.{◌≡◌, ℕ, ◌<◌, ◌⊎◌, List, [], ◌∷◌, ◌++◌, length, Some, Ok, Err, string_bytes, Result, String, ◌≢◌}
-use Rattle.cells.specs.declared.laid.Laid.{Laid}
-use Rattle.cells.specs.Lays.{Lays}
+use Rattle.cells.specs.LaysRule.{LaysRule}
 use Rattle.fault.specs.declared.CellFault.{CellFault}
 use Rattle.fault.specs.declared.WorkFault.{WorkFault}
 use Rattle.fault.specs.Faults.{cell_number_of, work_number_of}
@@ -10,8 +9,8 @@ use Rattle.letter.specs.declared.bits.Bits.{Bits}
 use Rattle.letter.specs.Heard.{Heard}
 use Rattle.letter.specs.Lines.{four_digits}
 use Rattle.lines.specs.Answers.{refusal_text, report_text}
-use Rattle.lines.specs.declared.opened.Opened.{Opened}
-use Rattle.lines.specs.declared.opened.Opened.TheVariants as opened
+use Rattle.watch_lines.specs.declared.opened.Opened.{Opened}
+use Rattle.watch_lines.specs.declared.opened.Opened.TheVariants as opened
 use Rattle.rule.specs.Tree.{Rule}
 use Rattle.runs.specs.Calls.{letter_answer, letter_state, letter_spare, told}
 use Rattle.runs.specs.Runs.{Report, Run}
@@ -25,9 +24,9 @@ use Rattle.std.specs.declared.alloc.Global.{Global}
 
 -- the rule's line: the rule with its cells laid, or the line that says which refusal it is
 abbrev pub RuleAnswered : List ℕ → Result Opened AllocError → Type 0
-RuleAnswered line (Ok (opened.Rule laid)) = Lays line (Ok laid)
+RuleAnswered line (Ok (opened.Rule laid)) = LaysRule line (Ok laid)
 RuleAnswered line (Ok (opened.Refused text)) =
-    (fault : CellFault) × (n : ℕ) × Lays line (Err fault) × (cell_number_of fault ≡ Some n) × (string_bytes text ≡ refusal_text n)
+    (fault : CellFault) × (n : ℕ) × LaysRule line (Err fault) × (cell_number_of fault ≡ Some n) × (string_bytes text ≡ refusal_text n)
 RuleAnswered line (Err e) = Unit {0}
 
 -- the line is a letter and the watch has read it; the answer is how many letters there are now, and the report

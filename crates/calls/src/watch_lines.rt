@@ -1,14 +1,14 @@
 // The lines of `logwatch`: each form of answer, with its exact text.
-use cells::laid::Laid;
-use lines::opened::Opened;
-use lines::watching::{rule_line, watch_line};
+use cells::laid_rule::LaidRule;
 use monitor::watch::Watch;
 use scale::verdict::Verdict;
 use std::alloc::Global;
 use std::test::Fail;
+use watch_lines::opened::Opened;
+use watch_lines::watching::{rule_line, watch_line};
 
 // The rule of a text that is accepted.
-fn laid(heap: Global, text: &[u8]) -> Result<Laid, Fail> {
+fn laid(heap: Global, text: &[u8]) -> Result<LaidRule, Fail> {
     match rule_line(heap, text)? {
         Opened::Rule(rule) => Ok(rule),
         Opened::Refused(line) => Err(Fail::new(line)),
@@ -18,7 +18,7 @@ fn laid(heap: Global, text: &[u8]) -> Result<Laid, Fail> {
 // The answers to lines, which bring a rule, one after the other.
 fn said<'b>(
     heap: Global,
-    rule: &Laid,
+    rule: &LaidRule,
     watch: &mut Watch<'b, Verdict>,
     spare: &mut [Verdict],
     lines: [&[u8]; 4],

@@ -1,5 +1,5 @@
-use Rattle.lines.proofs.Lasting.{lasting, ran_line}
-use Rattle.lines.proofs.watching.watch_line.Goals as goal
+use Rattle.watch_lines.proofs.Lasting.{lasting, ran_line}
+use Rattle.watch_lines.proofs.watching.watch_line.Goals as goal
 
 pub returns : goal.returns
 returns c = record {

@@ -4,9 +4,9 @@ use Rattle.letter.specs.Bits.{bits_heard}
 use Rattle.letter.specs.declared.bits.Bits.{Bits}
 use Rattle.letter.specs.Heard.{Heard}
 use Rattle.letter.specs.Lines.{four_digits}
-use Rattle.lines.proofs.Words.{one_letter}
+use Rattle.watch_lines.proofs.Words.{one_letter}
 use Rattle.lines.specs.Answers.{report_text}
-use Rattle.lines.specs.Watching.{Told, ForGood, LineAnswered, LineForGood}
+use Rattle.watch_lines.specs.Watching.{Told, ForGood, LineAnswered, LineForGood}
 use Rattle.rule.specs.Spelling.{spelled}
 use Rattle.rule.specs.Tree.{Rule}
 use Rattle.runs.specs.Calls.{after, differs, letter_answer, letter_state, letter_spare, with_letter, told, report_answer, count_answer}

@@ -1,17 +1,18 @@
 // What `logwatch` answers to a line.
 ghost use Rattle.std.specs.Prelude.{◌≡◌, List};
 ghost use Rattle.letter.specs.Heard.{Heard};
-ghost use Rattle.lines.specs.Watching.{RuleAnswered, LineAnswered, LineForGood};
+ghost use Rattle.watch_lines.specs.Watching.{RuleAnswered, LineAnswered, LineForGood};
 ghost use Rattle.monitor.specs.Outside.{watch_state};
 ghost use Rattle.rule.specs.Stands.{rule_of};
 ghost use Rattle.runs.specs.Runs.{Report, Run};
 ghost use Rattle.scale.specs.Verdicts.{verdicts};
 
-use crate::answer;
 use crate::opened::Opened;
-use cells::laid::Laid;
-use cells::lay::lay;
+use crate::refusal::refusal_number;
+use cells::laid_rule::LaidRule;
+use cells::lay_rule::lay_rule;
 use letter::line::read_bits;
+use lines::answer;
 use monitor::watch::Watch;
 use scale::verdict::Verdict;
 use std::alloc::{AllocError, Global};
@@ -20,12 +21,12 @@ use std::alloc::{AllocError, Global};
 pub fn rule_line(heap: Global, line: &[u8]) -> Result<Opened, AllocError>
     ensures { RuleAnswered line.now result }
 {
-    let fault = match lay(heap, line) {
+    let fault = match lay_rule(heap, line) {
         Ok(rule) => return Ok(Opened::Rule(rule)),
         Err(fault) => fault,
     };
     match fault.number() {
-        Some(number) => Ok(Opened::Refused(answer::refusal_number(heap, number)?)),
+        Some(number) => Ok(Opened::Refused(refusal_number(heap, number)?)),
         None => Err(AllocError),
     }
 }
@@ -34,12 +35,12 @@ pub fn rule_line(heap: Global, line: &[u8]) -> Result<Opened, AllocError>
 // refused.
 fn answered<'b>(
     heap: Global,
-    rule: &Laid,
+    rule: &LaidRule,
     watch: &mut Watch<'b, Verdict>,
     spare: &mut [Verdict],
     line: &[u8],
 ) -> Result<String, AllocError>
-    ensures answer { LineAnswered (rule_of rule.now.rule) (watch_state watch.old) spare.old line.now (watch_state watch.new) spare.new result }
+    ensures answer { LineAnswered (rule_of rule.now.laid.rule) (watch_state watch.old) spare.old line.now (watch_state watch.new) spare.new result }
     ensures buffer { watch.new.table.ghost_name ≡ watch.old.table.ghost_name }
 {
     let letter = match read_bits(line) {
@@ -47,7 +48,7 @@ fn answered<'b>(
         Err(fault) => return answer::refusal(heap, fault),
     };
     if let Err(fault) = watch.letter(rule, &letter, spare) {
-        return answer::refusal_number(heap, fault.number());
+        return refusal_number(heap, fault.number());
     }
     match (watch.report(rule), watch.count()) {
         (Ok(values), Ok(count)) => answer::report(heap, count as usize, values),
@@ -59,13 +60,13 @@ fn answered<'b>(
 // it says of the log so far stands beside it (lasting), and the next line can rely on it again (run).
 pub fn watch_line<'b>(
     heap: Global,
-    rule: &Laid,
+    rule: &LaidRule,
     watch: &mut Watch<'b, Verdict>,
     spare: &mut [Verdict],
     line: &[u8],
 ) -> Result<String, AllocError>
-    ensures answer { LineAnswered (rule_of rule.now.rule) (watch_state watch.old) spare.old line.now (watch_state watch.new) spare.new result }
-    ensures lasting { LineForGood (rule_of rule.now.rule) (watch_state watch.old) spare.old line.now result }
+    ensures answer { LineAnswered (rule_of rule.now.laid.rule) (watch_state watch.old) spare.old line.now (watch_state watch.new) spare.new result }
+    ensures lasting { LineForGood (rule_of rule.now.laid.rule) (watch_state watch.old) spare.old line.now result }
     ensures buffer { watch.new.table.ghost_name ≡ watch.old.table.ghost_name }
     ensures run { (log : List (Heard Verdict)) (reports : List (Report Verdict)) → Run verdicts (watch_state watch.old) log reports → (log' : List (Heard Verdict)) × (reports' : List (Report Verdict)) × Run verdicts (watch_state watch.new) log' reports' }
 {

@@ -1,6 +1,6 @@
 use Rattle.std.proofs.Common.{rules}
-use Rattle.lines.proofs.Lasting.{answered_told}
-use Rattle.lines.proofs.watching.answered.Goals as goal
+use Rattle.watch_lines.proofs.Lasting.{answered_told}
+use Rattle.watch_lines.proofs.watching.answered.Goals as goal
 
 pub returns-in-Ok-Ok : goal.returns-in-Ok-Ok
 returns-in-Ok-Ok c = record {
