@@ -21,3 +21,5 @@ mod reading;
 mod reporting;
 #[cfg(test)]
 mod shared;
+#[cfg(test)]
+mod text_lines;

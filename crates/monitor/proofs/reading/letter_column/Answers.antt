@@ -6,8 +6,8 @@ use Rattle.rule.specs.Stands.{rule_of}
 pub corner_values-after-requires : goal.corner_values-after-requires
 corner_values-after-requires g c = (few_fit 8 (length c.args.values.now) _ _ c.requires c.well_formed.1.1.1.0.1, c.args.laid.now.few)
 
-pub shared-whole-as-slice·all : goal.shared-whole-as-slice·all
-shared-whole-as-slice·all g c = few_fit 8 (length c.args.values.now) _ _ c.requires c.well_formed.1.1.1.0.1
+pub shared_whole_as_slice-all : goal.shared_whole_as_slice-all
+shared_whole_as_slice-all g c = few_fit 8 (length c.args.values.now) _ _ c.requires c.well_formed.1.1.1.0.1
 
 pub returns : goal.returns
 returns g c =

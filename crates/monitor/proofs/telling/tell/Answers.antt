@@ -8,4 +8,4 @@ pub returns : goal.returns
 returns g c =
     told_is g.met.S.Scale.lawful (rule_of c.args.laid.now.rule) c.args.table.now c.args.laid.now.count c.corners-size.result
     _ _ _ c.args.laid.now.counted c.corners-size.ensures.count (omega arith) (omega (arith, pow_pos c.args.laid.now.count))
-    c.at_marks-verdict.ensures c.index-table-0.is c.index-table_size.is
+    c.at_marks-verdict.ensures c.index-table-0.is c.index-table-size.is
