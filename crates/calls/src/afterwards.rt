@@ -22,7 +22,7 @@ fn one_letter(
     table: &mut [Verdict],
     spare: &mut [Verdict],
 ) -> Result<(), WorkFault>
-    ensures { table.new ≡ (letter_state verdicts a_watch (rule_of rule.now.laid.rule) (opened verdicts a_watch (rule_of rule.now.rule) table.old) (bits_heard letter.now) spare.old).buffer }
+    ensures { table.new ≡ (letter_state verdicts a_watch (rule_of rule.now.laid.rule) (opened verdicts a_watch (rule_of rule.now.laid.rule) table.old) (bits_heard letter.now) spare.old).buffer }
 {
     let mut opened = Watch::open(rule, table);
     opened.letter(rule, letter, spare)

@@ -1,7 +1,7 @@
 -- The steps over a log, letter by letter, give its verdict, floor and ceiling. Assumes nothing.
 use Rattle.std.proofs.Common.{◌≡◌, ℕ, suc, ◌+◌, ◌<◌, Bool, true, false, not, List, [], ◌∷◌, length, get_or, Some, None, Option, sym, refl, ap, ◌∙◌, ap₂, arith}
 use mathlib.Core.Path.{fun_ext}
-use Rattle.semantics.specs.Inward.{flipped, inward}
+use Rattle.semantics.specs.Inward.{inward}
 use Rattle.cells.specs.Step.{step, end_marks}
 use Rattle.cells.specs.Meaning.{cells_mean, Positive, steps, StepLaws, Stepping}
 use Rattle.cells.proofs.Rules.{ended_now, cells_end, cells_step}

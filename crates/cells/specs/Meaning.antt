@@ -1,15 +1,14 @@
 -- What each cell stands for, in terms of the position rules; and that the step keeps to it. Assumes nothing.
-use Rattle.std.specs.Prelude.{◌≡◌, ℕ, suc, ◌<◌, Bool, true, false, cond, List, [], ◌∷◌, ◌++◌, map, length, get_or, Some, None, Option, slice_index_or}
+use Rattle.std.specs.Prelude.{◌≡◌, ℕ, suc, ◌<◌, Bool, false, cond, List, [], ◌∷◌, ◌++◌, length, get_or, Some, None, Option, slice_index_or}
 use Rattle.semantics.specs.Inward.{inward}
-use Rattle.cells.specs.Shape.{with_cell}
-use Rattle.cells.specs.Step.{wants_every, step, end_marks, cell_count}
+use Rattle.cells.specs.Step.{wants_every, step, end_marks}
 use Rattle.letter.specs.Heard.{Heard}
 use Rattle.rule.specs.declared.leaf.Kind.{Kind}
 use Rattle.rule.specs.declared.leaf.Test.{Test}
 use Rattle.rule.specs.Tree.{Segment, single, either, chain, star, Rule, letter, negated, both, any, next, until, release}
 use Rattle.scale.specs.Laws.{Algebra}
 use Rattle.semantics.specs.Equations.{onward}
-use Rattle.semantics.specs.Marks.{Marks, verdict_marks, floor_marks, ceiling_marks}
+use Rattle.semantics.specs.Marks.{verdict_marks, floor_marks, ceiling_marks}
 use Rattle.semantics.specs.Positions.{every_match, ended, worth}
 use Rattle.semantics.specs.Reports.{value_on, test_on, worth_on, verdict, floor, ceiling}
 

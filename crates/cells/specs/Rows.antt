@@ -1,6 +1,6 @@
 -- Corners, rows and tables: how the cells before a volume depend on the cells after it. A volume is a stretch of a log
 -- whose beginning need not be known. Assumes nothing.
-use Rattle.std.specs.Prelude.{◌≡◌, ℕ, zero, suc, ◌+◌, ◌/◌, ◌%◌, ◌^◌, ◌<◌, Bool, true, false, cond, ◌==◌}
+use Rattle.std.specs.Prelude.{◌≡◌, ℕ, zero, suc, ◌+◌, ◌/◌, ◌%◌, ◌^◌, ◌<◌, Bool, true, cond, ◌==◌}
 use Rattle.scale.specs.Laws.{Algebra, Below}
 use Rattle.semantics.specs.Folds.{join_over, meet_over}
 

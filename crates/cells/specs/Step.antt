@@ -1,13 +1,12 @@
 -- The cells of a rule, and each cell before a letter from the cells after it. A cell is a value that has to be known after
 -- a letter to know the rule before it. Assumes nothing.
-use Rattle.std.specs.Prelude.{ℕ, zero, suc, ◌+◌, Bool, true, false, cond, List, [], ◌∷◌, ◌++◌, map, Some, None, Option}
+use Rattle.std.specs.Prelude.{ℕ, suc, ◌+◌, Bool, true, false, cond, List, [], ◌∷◌, ◌++◌, Some, None, Option}
 use Rattle.cells.specs.Shape.{tests, firsts, endings, followers, with_cell}
 use Rattle.rule.specs.declared.leaf.Kind.{Kind}
 use Rattle.rule.specs.declared.leaf.Kind.TheVariants.{SomeStrong, SomeWeak, EveryStrong, EveryWeak}
 use Rattle.rule.specs.declared.leaf.Test.{Test}
 use Rattle.rule.specs.Tree.{Segment, Rule, letter, negated, both, any, next, until, release}
 use Rattle.scale.specs.Laws.{Algebra}
-use Rattle.semantics.specs.Marks.{Marks}
 
 abbrev pub count_set : List Bool → ℕ
 count_set [] = 0

@@ -1,12 +1,12 @@
 -- Lists that are filled by pushing, and the rows and grids that they make. Assumes nothing.
-use Rattle.std.proofs.Common.{◌≡◌, ℕ, zero, suc, ◌+◌, ◌-◌, ◌*◌, ◌/◌, ◌%◌, ◌<◌, ◌≤◌, true, cond, List, [], ◌∷◌, ◌++◌, length, get_or, vec_items, vec_len, sym, refl, ap, ◌∙◌, subst, ap₂, ⊎_elim, mul-le-mul_right, mod-lt, suc-mul, div-lt_iff_lt-mul, div-add-mod', arith}
+use Rattle.std.proofs.Common.{◌≡◌, ℕ, zero, suc, ◌+◌, ◌-◌, ◌*◌, ◌/◌, ◌%◌, ◌<◌, ◌≤◌, List, [], ◌∷◌, ◌++◌, length, get_or, vec_items, sym, ap, ◌∙◌, ap₂, ⊎_elim, mul-le-mul_right, mod-lt, suc-mul, div-lt_iff_lt-mul, div-add-mod', arith}
 use lib.Arith.{digits_lt, digits_div, digits_mod}
 use Rattle.scale.specs.Laws.{Algebra}
 use Rattle.evaluator.specs.declared.grid.Grid.{Grid}
 use Rattle.evaluator.specs.declared.grid.Row.{Row}
-use Rattle.evaluator.specs.Tables.{spot, place, entry, cell, Has, Holds, Whole, Square, Rowed, Gridded}
+use Rattle.evaluator.specs.Tables.{place, cell, Has, Holds, Whole, Square, Rowed, Gridded}
 use Rattle.std.proofs.lemmas.List.{length_push, get_or_push, get_or_append_left}
-use Rattle.std.proofs.lemmas.Bool.{cases_eq, cond-true}
+use Rattle.std.proofs.lemmas.Bool.{cases_eq}
 
 -- the list has the first values of f, so many as the count says
 abbrev pub Filled : {S : Type 0} → Algebra S → (ℕ → S) → ℕ → List S → Type 0

@@ -1,5 +1,5 @@
 -- Joins and meets that a loop builds position by position. Assumes nothing.
-use Rattle.std.proofs.Common.{◌≡◌, ℕ, zero, suc, ◌+◌, ◌-◌, ◌*◌, ◌<◌, ◌≤◌, sym, refl, ap, ◌∙◌, ap₂, arith}
+use Rattle.std.proofs.Common.{◌≡◌, ℕ, suc, ◌+◌, ◌-◌, ◌≤◌, sym, refl, ap, ◌∙◌, ap₂, arith}
 use Rattle.scale.specs.Laws.{Algebra}
 use Rattle.semantics.specs.Folds.{joined, met, join_over, meet_over}
 use Rattle.semantics.proofs.Bounds.{join_over_none, meet_over_none}

@@ -1,5 +1,5 @@
 -- What is made of equal parts is equal. Assumes nothing.
-use Rattle.std.proofs.Common.{◌≡◌, ℕ, zero, suc, ◌+◌, ◌-◌, ◌<◌, ◌≤◌, cond, eqb, sym, refl, ap, ◌∙◌, subst, ap₂, arith}
+use Rattle.std.proofs.Common.{◌≡◌, ℕ, zero, suc, ◌-◌, ◌<◌, ◌≤◌, cond, eqb, refl, ap, ap₂, arith}
 use Rattle.rule.specs.declared.leaf.Kind.{Kind}
 use Rattle.rule.specs.declared.leaf.Kind.TheVariants.{SomeStrong, SomeWeak, EveryStrong, EveryWeak}
 use Rattle.scale.specs.Laws.{Algebra}
@@ -7,7 +7,6 @@ use Rattle.evaluator.specs.declared.mode.Mode.{Mode}
 use Rattle.evaluator.specs.declared.mode.Mode.TheVariants.{Join, Meet}
 use Rattle.evaluator.specs.declared.mode.Way.{Way}
 use Rattle.evaluator.specs.declared.mode.Way.TheVariants.{Either, Chain, Star}
-use Rattle.semantics.specs.Folds.{join_over, meet_over}
 use Rattle.evaluator.specs.Parts.{turned, pair_matches, way_open, pair_open, star_open, some_part, every_part, next_part}
 use Rattle.semantics.specs.Positions.{paths, repeats}
 use Rattle.semantics.proofs.Bounds.{join_over_same, meet_over_same}

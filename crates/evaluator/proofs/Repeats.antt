@@ -1,8 +1,7 @@
 -- One more cell of the grid of any number of steps. Assumes nothing.
-use Rattle.std.proofs.Common.{◌≡◌, ℕ, suc, ◌*◌, ◌%◌, ◌<◌, ◌≤◌, cond, eqb, vec_items, vec_len, sym, refl, ap, ◌∙◌, ⊎_elim, arith}
+use Rattle.std.proofs.Common.{◌≡◌, ℕ, suc, ◌*◌, ◌%◌, ◌<◌, ◌≤◌, vec_items, vec_len, sym, ap, ◌∙◌, ⊎_elim, arith}
 use Rattle.scale.specs.Laws.{Algebra}
 use Rattle.evaluator.specs.declared.grid.Grid.{Grid}
-use Rattle.semantics.specs.Folds.{join_over}
 use Rattle.evaluator.specs.Parts.{repeat_step}
 use Rattle.semantics.specs.Positions.{repeats}
 use Rattle.evaluator.specs.Tables.{cell, place, Holds}

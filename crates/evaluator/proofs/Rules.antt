@@ -1,5 +1,5 @@
 -- The row of a rule, from the rows of its parts. Assumes nothing.
-use Rattle.std.proofs.Common.{◌≡◌, ℕ, zero, suc, ◌+◌, ◌-◌, ◌<◌, ◌≤◌, Bool, cond, not, sym, refl, ap, ◌∙◌, subst, ap₂, arith}
+use Rattle.std.proofs.Common.{◌≡◌, ℕ, zero, suc, ◌-◌, ◌<◌, ◌≤◌, Bool, not, sym, refl, ap, ◌∙◌, subst, ap₂, arith}
 use Rattle.rule.specs.declared.leaf.Kind.{Kind}
 use Rattle.rule.specs.declared.leaf.Kind.TheVariants.{SomeStrong, SomeWeak, EveryStrong, EveryWeak}
 use Rattle.rule.specs.declared.leaf.Test.{Test}
@@ -9,9 +9,8 @@ use Rattle.evaluator.specs.declared.grid.Row.{Row}
 use Rattle.evaluator.specs.declared.mode.Mode.{Mode}
 use Rattle.evaluator.specs.declared.mode.Mode.TheVariants.{Join, Meet}
 use Rattle.evaluator.specs.declared.table.Table.{Table}
-use Rattle.semantics.specs.Folds.{join_over, meet_over}
 use Rattle.semantics.specs.Marks.{Marks}
-use Rattle.evaluator.specs.Parts.{merged, turned, some_part, every_part, next_part}
+use Rattle.evaluator.specs.Parts.{merged, some_part, every_part, next_part}
 use Rattle.semantics.specs.Positions.{matches, open_at, some_match, every_match, ended, next_of, worth}
 use Rattle.evaluator.specs.Segments.{Tabled, Turns, Turning}
 use Rattle.evaluator.specs.Tables.{entry, cell, Rowed}

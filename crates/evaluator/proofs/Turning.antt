@@ -1,5 +1,5 @@
 -- The row of an until or a release while it is filled. Assumes nothing.
-use Rattle.std.proofs.Common.{◌≡◌, ℕ, suc, ◌+◌, ◌-◌, ◌<◌, ◌≤◌, [], ◌∷◌, ◌++◌, length, get_or, vec_items, vec_len, sym, refl, ap, ◌∙◌, ⊎_elim, arith}
+use Rattle.std.proofs.Common.{◌≡◌, ℕ, suc, ◌+◌, ◌-◌, ◌<◌, ◌≤◌, [], ◌∷◌, ◌++◌, length, get_or, vec_items, sym, refl, ap, ◌∙◌, ⊎_elim, arith}
 use Rattle.rule.specs.declared.leaf.Kind.{Kind}
 use Rattle.scale.specs.Laws.{Algebra}
 use Rattle.evaluator.specs.declared.grid.Row.{Row}

@@ -1,5 +1,5 @@
 -- What the answer of the evaluator means. Assumes nothing.
-use Rattle.std.specs.Prelude.{◌≡◌, ℕ, ◌<◌, ◌≤◌, List, length, Some, None, Ok, Err, Option, Result}
+use Rattle.std.specs.Prelude.{◌≡◌, ◌<◌, ◌≤◌, List, length, Some, None, Ok, Err, Option, Result}
 use Rattle.letter.specs.Heard.{Heard}
 use Rattle.rule.specs.Tree.{Rule}
 use Rattle.scale.specs.Laws.{Algebra}

@@ -1,5 +1,5 @@
 -- The rows and grids of values that the evaluator fills, and what they hold. Assumes nothing.
-use Rattle.std.specs.Prelude.{◌≡◌, ℕ, suc, ◌+◌, ◌-◌, ◌*◌, ◌<◌, ◌≤◌, vec_items, vec_len, slice_index_or}
+use Rattle.std.specs.Prelude.{◌≡◌, ℕ, suc, ◌+◌, ◌-◌, ◌*◌, ◌<◌, vec_items, vec_len, slice_index_or}
 use Rattle.scale.specs.Laws.{Algebra}
 use Rattle.evaluator.specs.declared.grid.Grid.{Grid}
 use Rattle.evaluator.specs.declared.grid.Row.{Row}

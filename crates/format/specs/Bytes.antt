@@ -1,6 +1,6 @@
 -- A card is a stored summary: four fields, each a one-byte tag, a two-byte length and its bytes. Numbers stand most
 -- significant byte first. Assumes nothing.
-use Rattle.std.specs.Prelude.{◌≡◌, ℕ, ◌/◌, ◌%◌, ◌<◌, ◌≤◌, List, [], ◌∷◌, ◌++◌, length, take}
+use Rattle.std.specs.Prelude.{◌≡◌, ℕ, ◌/◌, ◌%◌, ◌≤◌, List, [], ◌∷◌, ◌++◌, length, take}
 use Rattle.cells.specs.Rows.{AllRise, empty}
 use Rattle.rule.specs.Spelling.{spelled}
 use Rattle.rule.specs.Tree.{Rule}

@@ -1,5 +1,5 @@
 -- The laws of cards. Assumes nothing.
-use Rattle.std.specs.Prelude.{◌≡◌, ℕ, ◌<◌, ◌≤◌, List, [], ◌∷◌, length, drop, Ok, Result}
+use Rattle.std.specs.Prelude.{◌≡◌, ℕ, ◌<◌, ◌≤◌, List, length, drop, Ok, Result}
 use Rattle.fault.specs.declared.CardFault.{CardFault}
 use Rattle.format.specs.Bytes.{card_of, values_of, LawfulTable, Cardable}
 use Rattle.format.specs.Reading.{CardRead}

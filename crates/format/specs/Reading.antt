@@ -1,5 +1,5 @@
 -- What the calls on cards answer and leave. Assumes nothing.
-use Rattle.std.specs.Prelude.{◌≡◌, ℕ, ◌+◌, ◌*◌, ◌<◌, Bool, true, false, cond, not, ◌&&◌, ◌||◌, ◌⊎◌, List, [], ◌∷◌, ◌++◌, length, take, drop, Ok, Err, Result, ◌==◌, ◌≢◌, nat_eq, nat_lt, slice_index}
+use Rattle.std.specs.Prelude.{◌≡◌, ℕ, ◌+◌, ◌*◌, ◌<◌, Bool, true, false, cond, not, ◌&&◌, ◌||◌, ◌⊎◌, List, ◌++◌, length, take, drop, Ok, Err, Result, ◌==◌, ◌≢◌, nat_eq, nat_lt, slice_index}
 use Rattle.fault.specs.declared.CardCause.TheVariants.{Field, FieldLength, OtherScale, Code, Table, OutputShort}
 use Rattle.fault.specs.declared.CardFault.{CardFault}
 use Rattle.fault.specs.declared.CardFault.TheVariants as card

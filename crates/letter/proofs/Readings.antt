@@ -1,5 +1,5 @@
 -- The lowest number that passes a test, step by step, and a fit channel's value. Assumes nothing.
-use Rattle.std.proofs.Common.{◌≡◌, ℕ, zero, suc, ◌+◌, ◌-◌, ◌<◌, Bool, true, false, cond, ℤ, pos, negsuc, ◌≤ℤ◌, Some, None, Option, refl, arith, w16, to_z, of_z}
+use Rattle.std.proofs.Common.{◌≡◌, ℕ, suc, ◌+◌, ◌-◌, ◌<◌, Bool, true, false, ℤ, pos, negsuc, ◌≤ℤ◌, Some, None, refl, arith, w16, to_z, of_z}
 use Rattle.letter.specs.declared.measured.Measured.{Measured}
 use Rattle.letter.specs.Measured.{outside, reading, limit, channel_unfit, lowest, over_by, measured_heard}
 use Rattle.scale.specs.declared.margin.Margin.{Margin}

@@ -1,6 +1,5 @@
 -- What a bit letter's line is: the four lowercase hexadecimal digits of its word. Assumes nothing.
 use Rattle.std.specs.Prelude.{◌≡◌, ℕ, ◌+◌, ◌/◌, ◌%◌, ◌<◌, cond, List, [], ◌∷◌, Some, None, Ok, Err, Option, Result, ◌≢◌, nat_lt}
-use Rattle.fault.specs.declared.TextCause.{TextCause}
 use Rattle.fault.specs.declared.TextCause.TheVariants.{Length, Byte, Early, LeftOver, Nodes, Hexadecimal}
 use Rattle.fault.specs.declared.TextFault.{TextFault}
 use Rattle.fault.specs.declared.TextFault.TheVariants.{Refused, NoMemory}

@@ -1,5 +1,5 @@
 -- What is answered to a letter's line, case by case. Assumes nothing.
-use Rattle.std.proofs.Common.{◌≡◌, ℕ, ◌+◌, ◌<◌, ◌≤◌, true, List, [], ◌∷◌, ◌++◌, map, length, take, set, is_err, Ok, Err, Option, Result, String, sym, refl, ap, ◌∙◌, arith, length-set, length-take-le}
+use Rattle.std.proofs.Common.{◌≡◌, ℕ, ◌+◌, ◌<◌, ◌≤◌, true, List, map, length, take, set, is_err, Ok, Err, Option, Result, String, sym, refl, ap, ◌∙◌, arith, length-set, length-take-le}
 use Rattle.letter.specs.Bits.{bits_heard}
 use Rattle.letter.specs.declared.bits.Bits.{Bits}
 use Rattle.letter.specs.Lines.{four_digits}

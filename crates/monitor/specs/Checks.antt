@@ -1,7 +1,6 @@
 -- The checks of the calls, in order, over texts, sizes and counts alone. Assumes nothing.
-use Rattle.std.specs.Prelude.{◌≡◌, ℕ, ◌+◌, ◌*◌, ◌^◌, ◌≤◌, Bool, not, ◌||◌, List, Ok, Option, Result, ◌==◌, nat_lt}
+use Rattle.std.specs.Prelude.{ℕ, ◌+◌, ◌*◌, ◌^◌, Bool, not, ◌||◌, Ok, Option, ◌==◌, nat_lt}
 use Rattle.fault.specs.declared.WorkCause.TheVariants.{Differs, BufferShort, SpareShort, CountAbove, NoLetter}
-use Rattle.fault.specs.declared.WorkFault.{WorkFault}
 use Rattle.monitor.specs.declared.head.Head.{Head}
 use Rattle.monitor.specs.Outside.{own}
 use Rattle.rule.specs.Spelling.{spelled}

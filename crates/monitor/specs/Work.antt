@@ -1,11 +1,11 @@
 -- What the work on rows writes. Assumes nothing.
-use Rattle.std.specs.Prelude.{ℕ, ◌*◌, ◌^◌, false, List, [], ◌∷◌, ◌++◌, get_or, drop}
+use Rattle.std.specs.Prelude.{ℕ, ◌*◌, ◌^◌, false, List, [], ◌∷◌, ◌++◌, drop}
 use Rattle.cells.specs.Rows.{at, followed}
 use Rattle.cells.specs.RowAt.{listed}
 use Rattle.cells.specs.Tables.{table_of}
 use Rattle.letter.specs.Heard.{Heard}
 use Rattle.rule.specs.Tree.{Rule}
-use Rattle.runs.specs.States.{cells_of_rule, listing, rows, table_in}
+use Rattle.runs.specs.States.{listing, rows, table_in}
 use Rattle.scale.specs.Laws.{Algebra}
 use Rattle.semantics.specs.Inward.{inward}
 

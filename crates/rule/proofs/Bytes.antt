@@ -1,5 +1,5 @@
 -- What each byte that is allowed leaves to be read. Assumes nothing.
-use Rattle.std.proofs.Common.{◌≡◌, ℕ, ◌+◌, ◌*◌, ◌/◌, ◌%◌, ◌≤◌, Bool, true, false, cond, ◌&&◌, eqb, leb, List, [], ◌∷◌, Some, None, refl, subst, arith}
+use Rattle.std.proofs.Common.{◌≡◌, ℕ, ◌+◌, ◌*◌, ◌/◌, ◌%◌, ◌≤◌, true, false, ◌&&◌, leb, List, [], ◌∷◌, Some, None, refl, subst, arith}
 use Rattle.rule.specs.declared.head.Course.TheVariants.{Until, Release}
 use Rattle.rule.specs.declared.head.Joint.TheVariants.{Both, Any}
 use Rattle.rule.specs.declared.head.Pairing.TheVariants.{Either, Chain, Star}

@@ -1,10 +1,10 @@
 -- How one byte is read, and how readings follow one another. Assumes nothing.
-use Rattle.std.proofs.Common.{◌≡◌, ℕ, ◌+◌, ◌<◌, ◌≤◌, Bool, true, false, cond, eqb, List, [], ◌∷◌, ◌++◌, drop, Some, None, sym, refl, ap, ◌∙◌, append_assoc, add_assoc, arith}
+use Rattle.std.proofs.Common.{◌≡◌, ℕ, ◌+◌, false, eqb, List, [], ◌∷◌, ◌++◌, drop, Some, None, sym, ap, ◌∙◌, append_assoc, arith}
 use Rattle.fault.specs.declared.TextCause.TheVariants.{Byte, Early, Nodes}
 use Rattle.fault.specs.declared.TextFault.{TextFault}
 use Rattle.fault.specs.declared.TextFault.TheVariants.{Refused, NoMemory}
 use Rattle.rule.specs.declared.cursor.Cursor.{Cursor}
-use Rattle.rule.specs.Machine.{Want, opens, weight, run, End, stop, go_on}
+use Rattle.rule.specs.Machine.{Want, opens, weight, run}
 use Rattle.rule.specs.Parts.{Passed, Stops}
 use Rattle.std.proofs.lemmas.Bool.Decides.{nat_tests}
 

@@ -1,5 +1,5 @@
 -- How the parts that were read make a segment, a rule and a whole text. Assumes nothing.
-use Rattle.std.proofs.Common.{◌≡◌, ℕ, ◌<◌, ◌≤◌, List, [], ◌∷◌, ◌++◌, length, drop, sym, ◌∙◌, append-nil, arith, drop_of_length-le, drop-cons}
+use Rattle.std.proofs.Common.{◌≡◌, ℕ, ◌<◌, ◌≤◌, List, [], ◌∷◌, length, drop, sym, ◌∙◌, append-nil, arith, drop_of_length-le, drop-cons}
 use Rattle.fault.specs.declared.TextCause.TheVariants.{LeftOver}
 use Rattle.rule.proofs.Steps.{then_next}
 use Rattle.rule.specs.declared.cursor.Cursor.{Cursor}
@@ -11,7 +11,7 @@ use Rattle.rule.specs.declared.head.Pairing.{Pairing}
 use Rattle.rule.specs.declared.head.Pairing.TheVariants.{Either, Chain, Star}
 use Rattle.rule.specs.declared.leaf.Kind.{Kind}
 use Rattle.rule.specs.Heads.{pair_sign, joint_sign, course_sign}
-use Rattle.rule.specs.Machine.{Want, rule, segment, kind, run, stop}
+use Rattle.rule.specs.Machine.{rule, segment, kind, run, stop}
 use Rattle.rule.specs.Parts.{Passed, paired, joined, lasting}
 use Rattle.rule.specs.Size.{size, segment_size}
 use Rattle.rule.specs.Spelling.{spelled_kind, spelled_segment, spelled}

@@ -1,5 +1,5 @@
 -- What a first byte says: how it is spelled and what it leaves to be read. Assumes nothing.
-use Rattle.std.specs.Prelude.{◌≡◌, ℕ, Bool, true, false, List, [], ◌∷◌, Some, None, codes, Option}
+use Rattle.std.specs.Prelude.{◌≡◌, ℕ, true, false, List, [], ◌∷◌, Some, None, codes, Option}
 use Rattle.rule.specs.Machine.{Want, rule, segment, kind, tens, opens}
 use Rattle.rule.specs.Spelling.{spelled_kind}
 use Rattle.rule.specs.declared.head.Course.{Course}

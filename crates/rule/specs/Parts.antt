@@ -1,6 +1,5 @@
 -- What the inner functions of the reader promise. Assumes nothing.
 use Rattle.std.specs.Prelude.{◌≡◌, ℕ, ◌+◌, ◌<◌, ◌≤◌, false, cond, ◌&&◌, ◌⊎◌, List, [], ◌∷◌, ◌++◌, length, drop, Some, None, Ok, Err, Option, Result, ◌==◌, nat_le}
-use Rattle.fault.specs.declared.TextCause.{TextCause}
 use Rattle.fault.specs.declared.TextCause.TheVariants.{Length, Early, Nodes}
 use Rattle.fault.specs.declared.TextFault.{TextFault}
 use Rattle.fault.specs.declared.TextFault.TheVariants.{Refused, NoMemory}

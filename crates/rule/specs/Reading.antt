@@ -2,8 +2,6 @@
 use Rattle.std.specs.Prelude.{◌≡◌, ℕ, suc, ◌+◌, ◌<◌, ◌≤◌, Bool, true, false, cond, ◌&&◌, ◌||◌, ◌⊎◌, List, [], ◌∷◌, ◌++◌, length, take, codes, ◌==◌, nat_le}
 use Rattle.fault.specs.declared.TextCause.{TextCause}
 use Rattle.fault.specs.declared.TextCause.TheVariants.{Length, Byte, Early, LeftOver, Nodes, Hexadecimal}
-use Rattle.fault.specs.declared.TextFault.{TextFault}
-use Rattle.fault.specs.declared.TextFault.TheVariants.{Refused, NoMemory}
 use Rattle.rule.specs.Spelling.{spelled}
 use Rattle.rule.specs.Tree as plain
 

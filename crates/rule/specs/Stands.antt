@@ -1,6 +1,5 @@
 -- The plain tree that a rule of the code stands for: its boxes left out. Assumes nothing.
 use Rattle.rule.specs.Tree as plain
-use Rattle.rule.specs.declared.tree.Segment as segments
 use Rattle.rule.specs.declared.tree.Segment.{Segment}
 use Rattle.rule.specs.declared.tree.Segment.TheVariants.{Single, Either', Chain', Star'}
 use Rattle.rule.specs.declared.tree.Rule.{Rule}

@@ -1,11 +1,11 @@
 -- What the calls do to the table of a log: the facts the law of whole runs rests on.
-use Rattle.std.proofs.Common.{◌≡◌, ℕ, ◌*◌, ◌^◌, ◌<◌, ◌≤◌, false, List, [], ◌∷◌, ◌++◌, length, take}
+use Rattle.std.proofs.Common.{◌≡◌, ℕ, ◌^◌, ◌<◌, ◌≤◌, false, List, [], ◌∷◌, ◌++◌, length, take}
 use Rattle.cells.specs.Tables.{table_of}
 use Rattle.letter.specs.Heard.{Heard}
 use Rattle.rule.specs.Tree.{Rule}
 use Rattle.runs.specs.Calls.{with_letter, with_summary, with_both, told}
-use Rattle.runs.specs.States.{State, Form, watch, summary, cells_of_rule, rows_kept, table_size, table_in, table, rows, tabled, opened}
-use Rattle.scale.specs.Laws.{Algebra, Lawful}
+use Rattle.runs.specs.States.{State, Form, watch, summary, cells_of_rule, rows_kept, table_size, table, tabled, opened}
+use Rattle.scale.specs.Laws.{Algebra}
 use Rattle.semantics.specs.Inward.{inward}
 use Rattle.semantics.specs.Reports as position
 

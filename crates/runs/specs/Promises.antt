@@ -1,15 +1,14 @@
 -- The law of whole runs: what holds of a watch after any list of calls, and of a summary however it was built. Assumes nothing.
-use Rattle.std.specs.Prelude.{◌≡◌, ℕ, ◌+◌, ◌<◌, ◌≤◌, not, List, [], ◌∷◌, ◌++◌, length, None, Ok, Err, Result, ◌==◌}
+use Rattle.std.specs.Prelude.{◌≡◌, ℕ, ◌+◌, ◌<◌, ◌≤◌, not, List, [], ◌∷◌, ◌++◌, length, None, Ok, Result, ◌==◌}
 use Rattle.fault.specs.declared.WorkCause.TheVariants.{Differs, NoLetter}
 use Rattle.fault.specs.declared.WorkFault.{WorkFault}
-use Rattle.letter.specs.Bits.{bits_heard}
 use Rattle.letter.specs.declared.bits.Bits.{Bits}
 use Rattle.letter.specs.Heard.{Heard}
 use Rattle.rule.specs.Spelling.{spelled}
 use Rattle.rule.specs.Tree.{Rule}
-use Rattle.runs.specs.Calls.{most_letters, spare_needed, unless, differs, letter_answer, apply_answer, join_answer, report_answer, Equal}
+use Rattle.runs.specs.Calls.{most_letters, spare_needed, unless, letter_answer, apply_answer, join_answer, report_answer, Equal}
 use Rattle.runs.specs.Runs.{Report, Built, Run, Made, Separate, Nested, in_turn}
-use Rattle.runs.specs.States.{State, Form, watch, summary, table_size, opened}
+use Rattle.runs.specs.States.{State, watch, summary, table_size, opened}
 use Rattle.scale.specs.declared.verdict.Verdict.{Verdict}
 use Rattle.scale.specs.declared.verdict.Verdict.TheVariants.{Broken, Kept}
 use Rattle.scale.specs.Laws.{Algebra, Below}

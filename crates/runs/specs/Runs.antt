@@ -1,12 +1,12 @@
 -- Runs: lists of calls on a watch, refused or accepted, with any arguments; and how summaries come about. The log is
 -- what was read: opening gives the empty log, an accepted letter call adds its letter, an accepted apply the summary's log, an
 -- accepted join gives the third the first's log and then the second's; reports and refused calls leave it. Assumes nothing.
-use Rattle.std.specs.Prelude.{◌≡◌, ℕ, ◌≤◌, List, [], ◌∷◌, ◌++◌, length, Ok, Err, Result}
+use Rattle.std.specs.Prelude.{◌≡◌, ◌≤◌, List, [], ◌∷◌, ◌++◌, length, Ok, Err, Result}
 use Rattle.fault.specs.declared.WorkFault.{WorkFault}
 use Rattle.letter.specs.Heard.{Heard}
 use Rattle.rule.specs.Tree.{Rule}
 use Rattle.runs.specs.Calls.{after, letter_answer, letter_state, apply_answer, apply_state, join_answer, join_state, report_answer}
-use Rattle.runs.specs.States.{State, Form, watch, summary, table_size, opened}
+use Rattle.runs.specs.States.{State, watch, summary, table_size, opened}
 use Rattle.scale.specs.Laws.{Algebra}
 
 -- an accepted report: the log it was asked on, and what it answered

@@ -1,5 +1,5 @@
 -- Taking back a code gives the value that was put. Assumes nothing.
-use Rattle.std.proofs.Common.{◌≡◌, ℕ, ◌+◌, ◌≤◌, List, ◌++◌, length, take, Ok, Err, Result, sym, refl, ap, ◌∙◌, arith, length-append}
+use Rattle.std.proofs.Common.{◌≡◌, ℕ, List, ◌++◌, length, take, Ok, Err, Result, sym, ap, ◌∙◌, arith, length-append}
 use lib.Seq.{take-append_seam}
 use Rattle.scale.specs.Codes.{Coding, Sound, Taken, Back}
 use Rattle.scale.specs.declared.fault.CodeFault.{CodeFault}

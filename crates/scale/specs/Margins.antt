@@ -1,5 +1,5 @@
 -- The margin scale: join is the larger number, meet the smaller, opposite the negated number. Assumes nothing.
-use Rattle.std.specs.Prelude.{◌≡◌, ℕ, zero, suc, ◌%◌, ◌≤◌, Bool, true, false, cond, ℤ, pos, negsuc, neg_ℤ, ◌==◌, int_lt, nat_le, unsigned_abs, refl}
+use Rattle.std.specs.Prelude.{◌≡◌, zero, suc, ◌%◌, Bool, true, false, cond, ℤ, pos, negsuc, neg_ℤ, ◌==◌, int_lt, nat_le, unsigned_abs, refl}
 use Rattle.std.proofs.Common.{lit≤}
 use Rattle.scale.specs.declared.margin.Margin.{Margin}
 use Rattle.scale.specs.Laws.{Algebra}

@@ -1,5 +1,5 @@
 -- The laws of the margin scale. Assumes nothing.
-use Rattle.std.specs.Prelude.{◌≡◌, ℕ, ◌/◌, ◌%◌, ◌≤◌, Bool, true, false, cond, T, ℤ, pos, negsuc, neg_ℤ, FitsSigned, ◌==◌, int_lt, nat_eq, nat_le, unsigned_abs, refl}
+use Rattle.std.specs.Prelude.{◌≡◌, ◌/◌, ◌%◌, ◌≤◌, Bool, true, false, cond, T, ℤ, pos, negsuc, neg_ℤ, FitsSigned, ◌==◌, int_lt, nat_eq, nat_le, unsigned_abs, refl}
 use mathlib.Core.HLevel.{is_prop→PathP}
 use Rattle.std.proofs.Common.{sym, ap, ◌∙◌, arith, eqb→eq, lit<, lit≤, of_z, to_z}
 use Rattle.std.proofs.Math.Bridge.{le_prop}

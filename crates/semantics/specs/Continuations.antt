@@ -3,7 +3,6 @@ use Rattle.std.specs.Prelude.{◌≡◌, ℕ, ◌<◌, ◌⊎◌, List, map, len
 use Rattle.letter.specs.Bits.{bits_heard}
 use Rattle.letter.specs.declared.bits.Bits.{Bits}
 use Rattle.letter.specs.Heard.{Heard}
-use Rattle.rule.specs.declared.leaf.Channel.{Channel}
 use Rattle.rule.specs.declared.leaf.Test.{Test}
 use Rattle.rule.specs.Tree.{Rule}
 use Rattle.scale.specs.declared.verdict.Verdict.{Verdict}

@@ -1,9 +1,9 @@
 -- The equations that the position rules keep: the rules themselves with no bound on a recursion, and what a
 -- segment with a continuation is worth. Assumes nothing.
-use Rattle.std.specs.Prelude.{◌≡◌, ℕ, suc, ◌<◌, ◌≤◌, Bool}
+use Rattle.std.specs.Prelude.{◌≡◌, ℕ, suc, ◌<◌, Bool}
 use Rattle.rule.specs.declared.leaf.Kind.{Kind}
 use Rattle.rule.specs.declared.leaf.Test.{Test}
-use Rattle.rule.specs.Tree.{Segment, single, either, chain, star, Rule, letter, negated, both, any, next, until, release}
+use Rattle.rule.specs.Tree.{Segment, single, either, chain, star, Rule, until, release}
 use Rattle.scale.specs.Laws.{Algebra}
 use Rattle.semantics.specs.Folds.{join_over}
 use Rattle.semantics.specs.Marks.{Marks}

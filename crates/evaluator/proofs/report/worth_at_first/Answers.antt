@@ -1,4 +1,4 @@
-use Rattle.std.proofs.Common.{map, ◌∙◌, arith}
+use Rattle.std.proofs.Common.{◌∙◌, arith}
 use Rattle.evaluator.proofs.Filled.{whole_has}
 use Rattle.evaluator.proofs.report.worth_at_first.Goals as goal
 use Rattle.std.proofs.lemmas.List.{length-map}

@@ -1,6 +1,6 @@
 use Rattle.std.proofs.Common.{◌≡◌, map, length, sym, ap, ◌∙◌, subst, ap₂}
 use Rattle.rule.specs.Stands.{segment_of}
-use Rattle.rule.specs.Tree.{single, either, chain, star}
+use Rattle.rule.specs.Tree.{either, chain, star}
 use Rattle.semantics.specs.Reports.{value_on}
 use Rattle.evaluator.specs.Segments.{Segmented}
 use Rattle.evaluator.specs.Tables.{Rowed}

@@ -1,4 +1,4 @@
-use Rattle.std.proofs.Common.{refl, arith}
+use Rattle.std.proofs.Common.{refl}
 use Rattle.evaluator.proofs.Filled.{whole_has, square_holds}
 use Rattle.evaluator.proofs.segment.opened.Goals as goal
 

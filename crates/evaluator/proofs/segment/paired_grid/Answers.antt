@@ -1,4 +1,4 @@
-use Rattle.std.proofs.Common.{◌≡◌, ◌+◌, ◌-◌, ◌/◌, ◌%◌, vec_items, refl, ap, ◌∙◌, arith}
+use Rattle.std.proofs.Common.{◌≡◌, ◌-◌, ◌/◌, ◌%◌, vec_items, refl, ap, ◌∙◌, arith}
 use Rattle.evaluator.specs.Parts.{pair_matches}
 use Rattle.evaluator.specs.Tables.{cell}
 use Rattle.evaluator.proofs.Filled.{row_at, spotted, filled_none, filled_more, grid_filled}

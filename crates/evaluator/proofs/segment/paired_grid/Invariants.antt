@@ -1,4 +1,4 @@
-use Rattle.std.proofs.Common.{suc, ◌%◌, vec_items}
+use Rattle.std.proofs.Common.{◌%◌, vec_items}
 use Rattle.evaluator.specs.Parts.{pair_matches}
 use Rattle.evaluator.specs.Tables.{cell}
 use Rattle.evaluator.proofs.Filled.{Filled, row_at}

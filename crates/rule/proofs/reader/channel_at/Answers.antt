@@ -1,5 +1,5 @@
 -- Two digits are a channel. Assumes nothing.
-use Rattle.std.proofs.Common.{◌≡◌, ◌≤◌, [], ◌∷◌, refl, ap, ◌∙◌, arith}
+use Rattle.std.proofs.Common.{◌≤◌, [], ◌∷◌, refl, arith}
 use Rattle.rule.proofs.Bytes.{tens_opens, tens_only, ones_opens, ones_only, tens_are, ones_are}
 use Rattle.rule.proofs.Steps.{then_next, stops_next}
 use Rattle.rule.specs.Machine.{tens, ones}

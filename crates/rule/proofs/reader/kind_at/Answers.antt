@@ -1,5 +1,5 @@
 -- A kind is one byte, and any other byte is not allowed. Assumes nothing.
-use Rattle.std.proofs.Common.{refl, subst, add-zero}
+use Rattle.std.proofs.Common.{refl, add-zero}
 use Rattle.rule.proofs.Bytes.{kind_opens}
 use Rattle.rule.proofs.Steps.{early, bad, step}
 use Rattle.rule.specs.Machine.{kind}

@@ -1,5 +1,5 @@
 -- A text that was read to its end is the rule's spelling. Assumes nothing.
-use Rattle.std.proofs.Common.{refl, inl, arith, rules}
+use Rattle.std.proofs.Common.{refl, inl, rules}
 use Rattle.rule.proofs.Whole.{left_over, whole_spelled, whole_few}
 use Rattle.rule.proofs.reader.read_whole.Goals as goal
 

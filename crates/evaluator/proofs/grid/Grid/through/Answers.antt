@@ -1,4 +1,4 @@
-use Rattle.std.proofs.Common.{ap, ◌∙◌, ap₂, arith}
+use Rattle.std.proofs.Common.{◌∙◌, ap₂, arith}
 use Rattle.evaluator.proofs.Loops.{join_turn, join_none, join_all}
 use Rattle.evaluator.proofs.grid.Grid.through.Goals as goal
 
