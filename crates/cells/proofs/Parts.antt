@@ -2,7 +2,7 @@
 use Rattle.std.proofs.Common.{◌≡◌, ℕ, suc, ◌+◌, ◌-◌, ◌<◌, ◌≤◌, Bool, true, false, cond, not, ◌⊎◌, List, ◌∷◌, ◌++◌, length, get_or, sym, refl, ap, ◌∙◌, subst, ap₂, inl, inr, add-one, arith}
 use Rattle.semantics.specs.Inward.{flipped, inward}
 use Rattle.cells.specs.Reading.{blended, kind_under}
-use Rattle.cells.specs.Step.{test_cells, inner_cells, wants_every, next_before, tests_before, before, befores}
+use Rattle.cells.specs.Step.{test_cells, inner_cells, wants_every, next_before, tests_before, before, befores, step, cell_count}
 use Rattle.cells.specs.Walk.{cells_in, plus, enter, follow_at, Walked}
 use Rattle.cells.proofs.Counts.{inward_cells}
 use Rattle.cells.proofs.Tables.{tests_long, befores_length}
@@ -110,6 +110,9 @@ module _ {S : Type 0} {A : Algebra S} (W : Walked A) (value : Test → S) (after
 
   pub inner_length : (odd : Bool) (r : Rule) (base : ℕ) → length (Bs odd r base) ≡ inner_cells r
   inner_length odd r base = befores_length A value after (inward odd r) base ∙ inward_cells odd r
+
+  pub step_length : (odd : Bool) (r : Rule) → length (step A value after (inward odd r)) ≡ cell_count (inward odd r)
+  step_length odd r = ap suc (befores_length A value after (inward odd r) 1)
 
   pub letter_cell : (odd : Bool) (t : Test) (base k : ℕ) → cell_in (Bs odd (letter t) base) base k ≡ A.worst
   unfolding befores inward

@@ -4,7 +4,7 @@ ghost use Rattle.letter.specs.Measured.{outside, channel_unfit, over_by, measure
 
 use crate::kind::Letter;
 use scale::margin::Margin;
-use scale::order::{Scale, Scale as _};
+use scale::order::Scale;
 
 // A measured letter: a reading and a limit for each channel. A channel is unfit when one of them is out of range.
 #[derive(Clone, Copy)]
