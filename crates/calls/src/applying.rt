@@ -1,7 +1,9 @@
 // Taking in a summary: what is refused and in which order, and what is written.
-use crate::shared::{BLANK, MOST, OTHER, OWN, all_are, counted, refusal, repeated, volume};
+use crate::shared::{BLANK, MOST, OWN, Refusal, Rules, SCRATCH, all_are, repeated, volume};
 use cells::laid_rule::LaidRule;
 use cells::lay_rule::lay_rule;
+use fault::WorkFault;
+use letter::bits::Bits;
 use monitor::summary::Summary;
 use monitor::watch::Watch;
 use scale::verdict::Verdict;
@@ -9,8 +11,12 @@ use scale::verdict::Verdict::{Broken, Kept};
 use std::process::Abort;
 use std::test::Fail;
 
-// What was seen of a call: the refusal, the watch's count afterwards, its row with the place after it, and the summary's table.
-type Seen = ((u8, usize), u32, ([Verdict; 5], [Verdict; 8]));
+// What was seen of a call: the answer, the watch's count afterwards, its row with the place after it, and the summary's table.
+type Seen = (
+    Result<(), Refusal>,
+    Result<u32, WorkFault>,
+    ([Verdict; 5], [Verdict; 8]),
+);
 
 // A watch for one rule has read so many letters 0000 and takes in the summary of a letter 000e for another.
 fn applied(
@@ -24,12 +30,18 @@ fn applied(
     let mut table = [BLANK; 8];
     let mut before = [BLANK; 8];
     let mut used = [BLANK; 312];
-    let many = repeated(own, times, &mut before);
+    let many = repeated(
+        own,
+        &Bits { word: 0 },
+        times,
+        &mut [BLANK; SCRATCH],
+        &mut before,
+    );
     let one = volume(summed, &[14], &mut table);
     let mut watch = Watch::open(own, &mut row);
     let _ = watch.apply(own, &many, &mut used);
-    let answer = refusal(watch.apply(rule, &one, spare));
-    let count = counted(watch.count());
+    let answer = watch.apply(rule, &one, spare).map_err(Refusal::from);
+    let count = watch.count();
     (answer, count, (row, table))
 }
 
@@ -40,14 +52,15 @@ fn applied_in(
     table: &mut [Verdict],
     rule: &LaidRule,
     spare: &mut [Verdict],
-) -> (u8, usize) {
+) -> Result<(), Refusal> {
     let summary = Summary::open(own, table);
     let mut watch = Watch::open(own, row);
-    refusal(watch.apply(rule, &summary, spare))
+    Ok(watch.apply(rule, &summary, spare)?)
 }
 
 // Each of the two buffers too short, with another text and too short a spare besides.
-fn check_buffers(rt: &impl Abort, own: &LaidRule, other: &LaidRule) {
+fn check_buffers(rt: &impl Abort, rules: &Rules) {
+    let Rules { own, other } = rules;
     let mut scant = [BLANK; 311];
     let mut row = [BLANK; 4];
     let mut narrow = [BLANK; 3];
@@ -55,11 +68,11 @@ fn check_buffers(rt: &impl Abort, own: &LaidRule, other: &LaidRule) {
     let mut small = [BLANK; 7];
     assert_eq!(rt;
         applied_in(own, &mut narrow, &mut table, other, &mut scant),
-        (8, 0)
+        Err(Refusal(8, 0))
     );
     assert_eq!(rt;
         applied_in(own, &mut row, &mut small, other, &mut scant),
-        (8, 0)
+        Err(Refusal(8, 0))
     );
     assert_eq!(rt; narrow, [BLANK; 3]);
     assert_eq!(rt;
@@ -73,39 +86,39 @@ fn check_buffers(rt: &impl Abort, own: &LaidRule, other: &LaidRule) {
 
 // In each call all faults that are checked later are there as well. Each of the three texts is once another one. Letters
 // 0000 have rows 0 0 3 3, and 000e after them would make them 3 3 3 3.
-fn check_others(rt: &impl Abort, own: &LaidRule, other: &LaidRule) {
+fn check_others(rt: &impl Abort, rules: &Rules) {
+    let Rules { own, other } = rules;
     let mut spare = [BLANK; 312];
     let mut scant = [BLANK; 311];
     let seen = ([Broken, Broken, Kept, Kept, BLANK], [Kept; 8]);
     assert_eq!(rt;
         applied(own, MOST, own, other, &mut scant),
-        ((7, 0), MOST, seen)
+        (Err(Refusal(7, 0)), Ok(MOST), seen)
     );
     assert_eq!(rt;
         applied(own, MOST, other, own, &mut scant),
-        ((7, 0), MOST, seen)
+        (Err(Refusal(7, 0)), Ok(MOST), seen)
     );
     assert_eq!(rt;
         applied(other, MOST, own, own, &mut scant),
-        ((7, 0), MOST, seen)
+        (Err(Refusal(7, 0)), Ok(MOST), seen)
     );
     assert_eq!(rt;
         applied(own, MOST, own, own, &mut scant),
-        ((9, 0), MOST, seen)
+        (Err(Refusal(9, 0)), Ok(MOST), seen)
     );
     assert_eq!(rt;
         applied(own, MOST, own, own, &mut spare),
-        ((11, 0), MOST, seen)
+        (Err(Refusal(11, 0)), Ok(MOST), seen)
     );
     assert!(rt; all_are(&spare, BLANK) && all_are(&scant, BLANK));
 }
 
 #[test]
 fn checks_of_apply(rt: HostRuntime) -> Result<(), Fail> {
-    let own = lay_rule(rt.alloc(), OWN)?;
-    let other = lay_rule(rt.alloc(), OTHER)?;
-    check_buffers(&rt, &own, &other);
-    check_others(&rt, &own, &other);
+    let rules = Rules::laid(rt.alloc())?;
+    check_buffers(&rt, &rules);
+    check_others(&rt, &rules);
     Ok(())
 }
 
@@ -113,7 +126,11 @@ fn checks_of_apply(rt: HostRuntime) -> Result<(), Fail> {
 fn what_apply_writes(rt: HostRuntime) -> Result<(), Fail> {
     let laid = lay_rule(rt.alloc(), OWN)?;
     let mut spare = [BLANK; 315];
-    let expected = ((0, 0), MOST, ([Kept, Kept, Kept, Kept, BLANK], [Kept; 8]));
+    let expected = (
+        Ok(()),
+        Ok(MOST),
+        ([Kept, Kept, Kept, Kept, BLANK], [Kept; 8]),
+    );
     assert_eq!(rt;
         applied(&laid, MOST - 1, &laid, &laid, &mut spare),
         expected

@@ -1,8 +1,7 @@
 // Comparing summaries: they are equal when text, count and rows are.
-use crate::shared::{BLANK, refusal, volume};
+use crate::shared::{BLANK, Refusal, volume};
 use cells::laid_rule::LaidRule;
 use cells::lay_rule::lay_rule;
-use fault::WorkFault;
 use monitor::equal::equal;
 use scale::verdict::Verdict;
 use scale::verdict::Verdict::Kept;
@@ -17,22 +16,22 @@ fn alike(
     second: &LaidRule,
     others: &[u16],
     two: &mut [Verdict],
-) -> Result<bool, WorkFault> {
+) -> Result<bool, Refusal> {
     let left = volume(first, words, one);
     let right = volume(second, others, two);
-    equal(&left, &right)
+    Ok(equal(&left, &right)?)
 }
 
 fn check_buffers(rt: &impl Abort, laid: &LaidRule) {
     let mut short = [BLANK; 7];
     let mut table = [BLANK; 8];
     assert_eq!(rt;
-        refusal(alike(laid, &[], &mut short, laid, &[], &mut table)),
-        (8, 0)
+        alike(laid, &[], &mut short, laid, &[], &mut table),
+        Err(Refusal(8, 0))
     );
     assert_eq!(rt;
-        refusal(alike(laid, &[], &mut table, laid, &[], &mut short)),
-        (8, 0)
+        alike(laid, &[], &mut table, laid, &[], &mut short),
+        Err(Refusal(8, 0))
     );
 }
 

@@ -1,6 +1,6 @@
 // Opening: the empty volume is written over the front of the buffer, or nothing where the buffer is too short. A count is
 // refused there.
-use crate::shared::{BLANK, OWN, refusal};
+use crate::shared::{BLANK, OWN, Refusal};
 use cells::laid_rule::LaidRule;
 use cells::lay_rule::lay_rule;
 use monitor::summary::Summary;
@@ -30,8 +30,8 @@ fn check_left(rt: &impl Abort, laid: &LaidRule) {
     let mut table = [BLANK; 7];
     let watch = Watch::open(laid, &mut row);
     let summary = Summary::open(laid, &mut table);
-    assert_eq!(rt; refusal(watch.count()), (8, 0));
-    assert_eq!(rt; refusal(summary.count()), (8, 0));
+    assert_eq!(rt; watch.count().map_err(Refusal::from), Err(Refusal(8, 0)));
+    assert_eq!(rt; summary.count().map_err(Refusal::from), Err(Refusal(8, 0)));
     assert_eq!(rt; row, [BLANK; 3]);
     assert_eq!(rt; table, [BLANK; 7]);
 }

@@ -1,7 +1,10 @@
 // Reading a letter: what is refused and in which order, and what is written.
-use crate::shared::{BLANK, MOST, OTHER, OWN, all_are, counted, refusal, repeat};
+use crate::shared::{
+    BLANK, MOST, OWN, OnSummary, OnWatch, Refusal, Rules, SCRATCH, all_are, repeated,
+};
 use cells::laid_rule::LaidRule;
 use cells::lay_rule::lay_rule;
+use fault::WorkFault;
 use letter::bits::Bits;
 use letter::measured::Measured;
 use monitor::summary::Summary;
@@ -9,6 +12,7 @@ use monitor::watch::Watch;
 use scale::margin::Margin;
 use scale::verdict::Verdict;
 use scale::verdict::Verdict::{Broken, Kept};
+use std::fmt::Debug;
 use std::process::Abort;
 use std::test::Fail;
 
@@ -33,161 +37,150 @@ fn unfit() -> Measured {
     letter
 }
 
-// The summary of so many letters of margins -1.
-fn repeated<'b>(laid: &LaidRule, times: u32, buffer: &'b mut [Margin]) -> Summary<'b, Margin> {
-    let mut first = [blank(); 8];
-    let mut second = [blank(); 8];
-    let mut third = [blank(); 8];
-    let mut spare = [blank(); 312];
-    let mut one = Summary::open(laid, &mut first);
-    let _ = one.letter(laid, &even(-1), &mut spare);
-    let none = Summary::open(laid, &mut second);
-    let mut twice = Summary::open(laid, &mut third);
-    let mut summary = Summary::open(laid, buffer);
-    repeat(laid, times, &one, &none, &mut twice, &mut summary);
-    summary
+// What was seen of a call: the answer, the count afterwards, and the table with the place after it.
+type Seen<T> = (Result<(), Refusal>, Result<u32, WorkFault>, T);
+
+// Reading a letter, by a watch or by a summary.
+trait Reads {
+    // the numbers of the table with the place after it
+    type Table: Copy + PartialEq + Debug;
+
+    // One that has read so many letters of margins -1 reads a letter.
+    fn reads(
+        own: &LaidRule,
+        times: u32,
+        rule: &LaidRule,
+        letter: &Measured,
+        spare: &mut [Margin],
+    ) -> Seen<Self::Table>;
+
+    // One that has just been opened in a buffer reads a letter.
+    fn reads_in(
+        own: &LaidRule,
+        buffer: &mut [Margin],
+        rule: &LaidRule,
+        letter: &Measured,
+        spare: &mut [Margin],
+    ) -> Result<(), Refusal>;
 }
 
-// A watch that has read so many letters of margins -1 reads a letter: the refusal, the count afterwards, and the row with the
-// place after it.
-fn watch_reads(
-    own: &LaidRule,
-    times: u32,
-    rule: &LaidRule,
-    letter: &Measured,
-    spare: &mut [Margin],
-) -> ((u8, usize), u32, [i16; 5]) {
-    let mut table = [blank(); 8];
-    let mut row = [blank(); 5];
-    let mut used = [blank(); 312];
-    let volume = repeated(own, times, &mut table);
-    let mut watch = Watch::open(own, &mut row);
-    let _ = watch.apply(own, &volume, &mut used);
-    let answer = refusal(watch.letter(rule, letter, spare));
-    let count = counted(watch.count());
-    let [a, b, c, d, e] = row;
-    (
-        answer,
-        count,
-        [a.number, b.number, c.number, d.number, e.number],
-    )
+impl Reads for OnWatch {
+    type Table = [i16; 5];
+
+    fn reads(
+        own: &LaidRule,
+        times: u32,
+        rule: &LaidRule,
+        letter: &Measured,
+        spare: &mut [Margin],
+    ) -> Seen<[i16; 5]> {
+        let mut table = [blank(); 8];
+        let mut row = [blank(); 5];
+        let mut used = [blank(); 312];
+        let volume = repeated(own, &even(-1), times, &mut [blank(); SCRATCH], &mut table);
+        let mut watch = Watch::open(own, &mut row);
+        let _ = watch.apply(own, &volume, &mut used);
+        let answer = watch.letter(rule, letter, spare).map_err(Refusal::from);
+        let count = watch.count();
+        (answer, count, row.map(|margin| margin.number))
+    }
+
+    fn reads_in(
+        own: &LaidRule,
+        buffer: &mut [Margin],
+        rule: &LaidRule,
+        letter: &Measured,
+        spare: &mut [Margin],
+    ) -> Result<(), Refusal> {
+        Ok(Watch::open(own, buffer).letter(rule, letter, spare)?)
+    }
 }
 
-// The same with a summary, and its table.
-fn summary_reads(
-    own: &LaidRule,
-    times: u32,
-    rule: &LaidRule,
-    letter: &Measured,
-    spare: &mut [Margin],
-) -> ((u8, usize), u32, [i16; 9]) {
-    let mut table = [blank(); 9];
-    let mut summary = repeated(own, times, &mut table);
-    let answer = refusal(summary.letter(rule, letter, spare));
-    let count = counted(summary.count());
-    let [a, b, c, d, e, f, g, h, i] = table;
-    let numbers = [
-        a.number, b.number, c.number, d.number, e.number, f.number, g.number, h.number, i.number,
-    ];
-    (answer, count, numbers)
-}
+impl Reads for OnSummary {
+    type Table = [i16; 9];
 
-// A watch in a buffer that is too short: the refusal, and whether the buffer is as before.
-fn short_watch_reads(
-    own: &LaidRule,
-    rule: &LaidRule,
-    letter: &Measured,
-    spare: &mut [Margin],
-) -> ((u8, usize), bool) {
-    let mut row = [blank(); 3];
-    let mut watch = Watch::open(own, &mut row);
-    let answer = refusal(watch.letter(rule, letter, spare));
-    (answer, all_are(&row, blank()))
-}
+    fn reads(
+        own: &LaidRule,
+        times: u32,
+        rule: &LaidRule,
+        letter: &Measured,
+        spare: &mut [Margin],
+    ) -> Seen<[i16; 9]> {
+        let mut table = [blank(); 9];
+        let mut summary = repeated(own, &even(-1), times, &mut [blank(); SCRATCH], &mut table);
+        let answer = summary.letter(rule, letter, spare).map_err(Refusal::from);
+        let count = summary.count();
+        (answer, count, table.map(|margin| margin.number))
+    }
 
-// The same with a summary.
-fn short_summary_reads(
-    own: &LaidRule,
-    rule: &LaidRule,
-    letter: &Measured,
-    spare: &mut [Margin],
-) -> ((u8, usize), bool) {
-    let mut table = [blank(); 7];
-    let mut summary = Summary::open(own, &mut table);
-    let answer = refusal(summary.letter(rule, letter, spare));
-    (answer, all_are(&table, blank()))
+    fn reads_in(
+        own: &LaidRule,
+        buffer: &mut [Margin],
+        rule: &LaidRule,
+        letter: &Measured,
+        spare: &mut [Margin],
+    ) -> Result<(), Refusal> {
+        Ok(Summary::open(own, buffer).letter(rule, letter, spare)?)
+    }
 }
 
 // In each call all faults that are checked later are there as well. Letters of margins -1 have rows -1 -1 1 1, and one of
 // margins 7 after them would make them 1 1 1 1.
-fn check_watch(rt: &impl Abort, own: &LaidRule, other: &LaidRule) {
+fn check<R: Reads>(
+    rt: &impl Abort,
+    rules: &Rules,
+    short: &mut [Margin],
+    before: R::Table,
+    after: R::Table,
+) {
+    let Rules { own, other } = rules;
     let mut spare = [blank(); 312];
     let mut scant = [blank(); 311];
-    let row = [-1, -1, 1, 1, 5];
     assert_eq!(rt;
-        short_watch_reads(own, other, &unfit(), &mut scant),
-        ((8, 0), true)
+        R::reads_in(own, short, other, &unfit(), &mut scant),
+        Err(Refusal(8, 0))
+    );
+    assert!(rt; all_are(short, blank()));
+    assert_eq!(rt;
+        R::reads(own, MOST, other, &unfit(), &mut scant),
+        (Err(Refusal(7, 0)), Ok(MOST), before)
     );
     assert_eq!(rt;
-        watch_reads(own, MOST, other, &unfit(), &mut scant),
-        ((7, 0), MOST, row)
+        R::reads(own, MOST, own, &unfit(), &mut scant),
+        (Err(Refusal(9, 0)), Ok(MOST), before)
     );
     assert_eq!(rt;
-        watch_reads(own, MOST, own, &unfit(), &mut scant),
-        ((9, 0), MOST, row)
+        R::reads(own, MOST, own, &unfit(), &mut spare),
+        (Err(Refusal(10, 7)), Ok(MOST), before)
     );
     assert_eq!(rt;
-        watch_reads(own, MOST, own, &unfit(), &mut spare),
-        ((10, 7), MOST, row)
-    );
-    assert_eq!(rt;
-        watch_reads(own, MOST, own, &even(3), &mut spare),
-        ((11, 0), MOST, row)
+        R::reads(own, MOST, own, &even(3), &mut spare),
+        (Err(Refusal(11, 0)), Ok(MOST), before)
     );
     assert!(rt; all_are(&spare, blank()) && all_are(&scant, blank()));
     assert_eq!(rt;
-        watch_reads(own, MOST - 1, own, &even(3), &mut spare),
-        ((0, 0), MOST, [1, 1, 1, 1, 5])
-    );
-}
-
-fn check_summary(rt: &impl Abort, own: &LaidRule, other: &LaidRule) {
-    let mut spare = [blank(); 312];
-    let mut scant = [blank(); 311];
-    let rows = [-1, -1, 1, 1, -1, -1, 1, 1, 5];
-    assert_eq!(rt;
-        short_summary_reads(own, other, &unfit(), &mut scant),
-        ((8, 0), true)
-    );
-    assert_eq!(rt;
-        summary_reads(own, MOST, other, &unfit(), &mut scant),
-        ((7, 0), MOST, rows)
-    );
-    assert_eq!(rt;
-        summary_reads(own, MOST, own, &unfit(), &mut scant),
-        ((9, 0), MOST, rows)
-    );
-    assert_eq!(rt;
-        summary_reads(own, MOST, own, &unfit(), &mut spare),
-        ((10, 7), MOST, rows)
-    );
-    assert_eq!(rt;
-        summary_reads(own, MOST, own, &even(3), &mut spare),
-        ((11, 0), MOST, rows)
-    );
-    assert!(rt; all_are(&spare, blank()) && all_are(&scant, blank()));
-    assert_eq!(rt;
-        summary_reads(own, MOST - 1, own, &even(3), &mut spare),
-        ((0, 0), MOST, [1, 1, 1, 1, 1, 1, 1, 1, 5])
+        R::reads(own, MOST - 1, own, &even(3), &mut spare),
+        (Ok(()), Ok(MOST), after)
     );
 }
 
 #[test]
 fn checks_of_a_letter(rt: HostRuntime) -> Result<(), Fail> {
-    let own = lay_rule(rt.alloc(), OWN)?;
-    let other = lay_rule(rt.alloc(), OTHER)?;
-    check_watch(&rt, &own, &other);
-    check_summary(&rt, &own, &other);
+    let rules = Rules::laid(rt.alloc())?;
+    check::<OnWatch>(
+        &rt,
+        &rules,
+        &mut [blank(); 3],
+        [-1, -1, 1, 1, 5],
+        [1, 1, 1, 1, 5],
+    );
+    check::<OnSummary>(
+        &rt,
+        &rules,
+        &mut [blank(); 7],
+        [-1, -1, 1, 1, -1, -1, 1, 1, 5],
+        [1, 1, 1, 1, 1, 1, 1, 1, 5],
+    );
     Ok(())
 }
 

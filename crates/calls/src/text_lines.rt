@@ -4,15 +4,11 @@ use monitor::watch::Watch;
 use scale::verdict::Verdict;
 use std::alloc::Global;
 use std::test::Fail;
-use watch_lines::opened::Opened;
 use watch_lines::watching::{rule_line, watch_line};
 
 // The rule of a text that is accepted.
 fn laid(heap: Global, text: &[u8]) -> Result<LaidRule, Fail> {
-    match rule_line(heap, text)? {
-        Opened::Rule(rule) => Ok(rule),
-        Opened::Refused(line) => Err(Fail::new(line)),
-    }
+    rule_line(heap, text)?.map_err(Fail::new)
 }
 
 // The answers to lines, which bring a rule, one after the other.
@@ -47,11 +43,8 @@ fn answers(
 }
 
 // The line that a refused rule is answered with; none where it is accepted.
-fn rule_refusal(heap: Global, text: &[u8]) -> Result<String, Fail> {
-    match rule_line(heap, text)? {
-        Opened::Rule(_) => Ok(String::new(heap)),
-        Opened::Refused(line) => Ok(line),
-    }
+fn rule_refusal(heap: Global, text: &[u8]) -> Result<Option<String>, Fail> {
+    Ok(rule_line(heap, text)?.err())
 }
 
 #[test]
@@ -95,14 +88,17 @@ fn a_short_table_is_refused(rt: HostRuntime) -> Result<(), Fail> {
 
 #[test]
 fn rules_are_refused(rt: HostRuntime) -> Result<(), Fail> {
-    assert_eq!(rt; rule_refusal(rt.alloc(), b"")?.as_str(), "! 1\n");
-    assert_eq!(rt; rule_refusal(rt.alloc(), b"h16")?.as_str(), "! 2\n");
-    assert_eq!(rt; rule_refusal(rt.alloc(), b"Uef01y")?.as_str(), "! 3\n");
-    assert_eq!(rt; rule_refusal(rt.alloc(), b"Uef01yh02y")?.as_str(), "! 4\n");
-    assert_eq!(rt;
-        rule_refusal(rt.alloc(), b"EyEyEyEyEyEyEyEyh00")?.as_str(),
-        "! 6\n"
-    );
-    assert_eq!(rt; rule_refusal(rt.alloc(), b"Uef01yh02")?.as_str(), "");
+    let cases: [(&[u8], Option<&str>); 6] = [
+        (b"", Some("! 1\n")),
+        (b"h16", Some("! 2\n")),
+        (b"Uef01y", Some("! 3\n")),
+        (b"Uef01yh02y", Some("! 4\n")),
+        (b"EyEyEyEyEyEyEyEyh00", Some("! 6\n")),
+        (b"Uef01yh02", None),
+    ];
+    for (text, expected) in cases {
+        let line = rule_refusal(rt.alloc(), text)?;
+        assert_eq!(rt; line.as_deref(), expected);
+    }
     Ok(())
 }

@@ -4,6 +4,7 @@ use mathlib.Core.List.{map-append}
 use mathlib.Core.Path.{fun_ext}
 use Rattle.cells.specs.Shape.{with_cell}
 use Rattle.cells.specs.Meaning.{along, follow}
+use Rattle.cells.specs.Reading.{blended}
 use Rattle.cells.proofs.Sums.{Summing}
 use Rattle.cells.proofs.Contexts.{Parts, follows, celled, with_cell_celled}
 use Rattle.rule.specs.declared.leaf.Test.{Test}
@@ -13,16 +14,13 @@ use Rattle.scale.proofs.Lattice.{join_idem, meet_idem, opposite_meet}
 use Rattle.semantics.specs.Equations.{onward}
 use Rattle.semantics.proofs.Segments.{onwards}
 
--- every match meets where some match joins
+-- what no test is worth: every match meets, some match joins
 module _ {S : Type 0} (A : Algebra S) where
-  abbrev pub plus : Bool → S → S → S
-  plus every x y = cond every (A.meet x y) (A.join x y)
-
   abbrev pub none : Bool → S
   none every = cond every A.best A.worst
 
   -- a test worth v, with what comes after it
-  abbrev pub hit : Bool → S → S → S
+  abbrev hit : Bool → S → S → S
   hit every v x = cond every (A.join (A.opposite v) x) (A.meet v x)
 
   module _ (value : Test → ℕ → S) (n : ℕ) (every : Bool) where
@@ -37,7 +35,7 @@ module _ {S : Type 0} (A : Algebra S) where
     resumed (star a b) then = along A value n every (star a b) then
 
 module _ {S : Type 0} {A : Algebra S} (L : Lawful A) where
-  pub summing : (every : Bool) → Summing (plus A every) (none A every)
+  pub summing : (every : Bool) → Summing (blended A every) (none A every)
   summing true = record { assoc = L.meet_assoc; comm = L.meet_comm; idem = meet_idem L; unit = L.best_meet }
   summing false = record { assoc = L.join_assoc; comm = L.join_comm; idem = join_idem L; unit = L.worst_join }
 
@@ -66,7 +64,7 @@ module _ {S : Type 0} {A : Algebra S} (L : Lawful A) where
           ∙ (opposite_meet L _ _ ∙ ap (A.join (A.opposite (value t i))) (L.opposite_twice (then (suc i)))))
       along_test false t then = (onwards L value n then).by_test t i h
 
-      pub parts : (every : Bool) → Parts (plus A every) (none A every) (along_at A value n every i) (resumed A value n every) (λ b f. f)
+      pub parts : (every : Bool) → Parts (blended A every) (none A every) (along_at A value n every i) (resumed A value n every) (λ b f. f)
       parts false = record {
         by_either = λ a b then. (onwards L value n then).by_either a b i h;
         by_chain = λ a b then. (onwards L value n then).by_chain a b i h;
@@ -109,7 +107,7 @@ module _ {S : Type 0} (A : Algebra S) (value : Test → ℕ → S) (n : ℕ) (ev
 
     -- what may follow each test within the segment, at i
     pub follows_kept : (a : Segment) (then : ℕ → S) (within : Option (ℕ → S))
-        → follows (plus A every) (none A every) (along_at A value n every i) (resumed A value n every) (λ b f. f) a then (kept within)
+        → follows (blended A every) (none A every) (along_at A value n every i) (resumed A value n every) (λ b f. f) a then (kept within)
         ≡ map kept (follow A value n every a then within)
     unfolding follow follows
     follows_kept (single t) then within = refl

@@ -1,6 +1,7 @@
 -- Segments in a context: the first tests sum up to the segment, the followers of each test to what may follow it. Assumes nothing.
 use Rattle.std.proofs.Common.{◌≡◌, ℕ, ◌+◌, Bool, true, false, cond, ◌||◌, List, [], ◌∷◌, ◌++◌, map, length, sym, refl, ap, ◌∙◌, ap₂, arith, length-append}
 use lib.ListN.{length-map}
+use Rattle.std.proofs.Math.Bool.{or_assoc, or_comm, or_self}
 use Rattle.cells.specs.Shape.{tests, none_of, firsts, endings, either_of, with_each, followers, some_set, with_cell}
 use Rattle.cells.proofs.Sums.{Summing, sum, zipped, Even, unit_right, sum_append, sum_none, sum_either, zipped_append, zipped_map, zipped_each, zipped_rows, length_each, length_either}
 use Rattle.cells.proofs.Lengths.{none_length, firsts_length, endings_length, followers_length, ends_rows, one_length, followers_even}
@@ -28,7 +29,7 @@ module _ {C V : Type 0} (plus : V → V → V) (none : V) (worth : Segment → C
   follows (chain a b) c within = follows a (left (chain a b) c) (worth b (right (chain a b) c)) ++ follows b (right (chain a b) c) within
   follows (star a b) c within = follows a (left (star a b) c) (worth (star a b) c) ++ follows b (right (star a b) c) within
 
-  pub worths_length : (a : Segment) (c : C) → length (worths a c) ≡ length (tests a)
+  worths_length : (a : Segment) (c : C) → length (worths a c) ≡ length (tests a)
   unfolding tests worths
   worths_length (single t) c = refl
   worths_length (either a b) c = simp length-append (ap₂ ◌+◌ (worths_length a _) (worths_length b _))
@@ -133,21 +134,7 @@ celled a inside = follows {C = Unit {0}} ◌||◌ false (λ b c. true) (λ b c. 
 
 -- the sum of truths
 either_true : Summing ◌||◌ false
-either_true = record { assoc = assoc; comm = comm; idem = idem; unit = λ x. refl }
-  where
-    assoc : (x y z : Bool) → ((x || y) || z) ≡ (x || (y || z))
-    assoc true y z = refl
-    assoc false y z = refl
-
-    comm : (x y : Bool) → (x || y) ≡ (y || x)
-    comm true true = refl
-    comm true false = refl
-    comm false true = refl
-    comm false false = refl
-
-    idem : (x : Bool) → (x || x) ≡ x
-    idem true = refl
-    idem false = refl
+either_true = record { assoc = or_assoc; comm = or_comm; idem = or_self; unit = λ x. refl }
 
 abbrev AllTrue : List Bool → Type 0
 AllTrue [] = Unit {0}

@@ -2,6 +2,7 @@
 use Rattle.std.proofs.Common.{◌≡◌, ℕ, zero, suc, ◌-◌, ◌<◌, ◌≤◌, Bool, true, false, cond, not, eqb, sym, refl, ap, ◌∙◌, ap₂, arith}
 use mathlib.Core.Path.{fun_ext}
 use Rattle.semantics.specs.Inward.{dual, flipped, inward}
+use Rattle.cells.specs.Reading.{kind_under}
 use Rattle.cells.specs.Step.{wants_every}
 use Rattle.cells.specs.Meaning.{along, Positive}
 use Rattle.cells.proofs.Along.{along_opposite}
@@ -33,10 +34,7 @@ driven true (until k r a s) = (driven true r, driven true s)
 driven false (release k r a s) = (driven false r, driven false s)
 driven true (release k r a s) = (driven true r, driven true s)
 
--- the dual kind where the flag is set, and the opposite value
-abbrev pub turned_kind : Bool → Kind → Kind
-turned_kind odd k = cond odd (dual k) k
-
+-- the opposite value where the flag is set
 abbrev pub turned : {S : Type 0} → Algebra S → Bool → S → S
 turned A odd x = cond odd (A.opposite x) x
 
@@ -62,7 +60,7 @@ module _ {S : Type 0} {A : Algebra S} (L : Lawful A) (value : Test → ℕ → S
       twice : (j : ℕ) → A.opposite (ended A value n (λ j. A.opposite (f j)) (A.opposite m) j) ≡ ended A value n f m j
       twice j = ap A.opposite (sym (cond_opposite (eqb j n) m (f j))) ∙ L.opposite_twice _
 
-  module _ (marks : Marks S) (mark : Kind → S) (at_marks : (odd : Bool) (k : Kind) → mark (turned_kind odd k) ≡ turned A odd (marks odd k))
+  module _ (marks : Marks S) (mark : Kind → S) (at_marks : (odd : Bool) (k : Kind) → mark (kind_under odd k) ≡ turned A odd (marks odd k))
       (at_flipped : (t : Test) (i : ℕ) → value (flipped t) i ≡ A.opposite (value t i)) where
     abbrev driven_worth : Bool → Rule → ℕ → S
     driven_worth odd r = worth A value n (λ odd kind. mark kind) false (inward odd r)
@@ -71,7 +69,7 @@ module _ {S : Type 0} {A : Algebra S} (L : Lawful A) (value : Test → ℕ → S
     Agree odd r = (i : ℕ) → i < n → driven_worth odd r i ≡ turned A odd (worth A value n marks odd r i)
 
     next_turned : (odd : Bool) (k : Kind) (a : Segment) (f g : ℕ → S) (i : ℕ) → ((j : ℕ) → i < j → j < n → f j ≡ turned A odd (g j))
-        → next_of A value n (turned_kind odd k) a f (mark (turned_kind odd k)) i ≡ turned A odd (next_of A value n k a g (marks odd k) i)
+        → next_of A value n (kind_under odd k) a f (mark (kind_under odd k)) i ≡ turned A odd (next_of A value n k a g (marks odd k) i)
     next_turned false k a f g i same = next_of_same A value n k a f g (mark k) i same ∙ ap (λ m. next_of A value n k a g m i) (at_marks false k)
     next_turned true k a f g i same = next_of_same A value n (dual k) a f _ (mark (dual k)) i same
         ∙ (ap (λ m. next_of A value n (dual k) a (λ j. A.opposite (g j)) m i) (at_marks true k) ∙ next_dual k a g (marks true k) i)

@@ -10,6 +10,7 @@ use Rattle.cells.proofs.Walking.{counted}
 use Rattle.rule.specs.declared.leaf.Kind.{Kind}
 use Rattle.rule.specs.declared.leaf.Test.{Test}
 use Rattle.rule.specs.Tree.{Segment, Rule, letter, negated, both, any, next, until, release}
+use Rattle.std.proofs.lemmas.Grind.{get_or_tail}
 use Rattle.std.proofs.lemmas.List.{get_or_append_left, get_or-append_right}
 
 module _ {S : Type 0} (mark : Kind → S) (d : S) where
@@ -47,9 +48,6 @@ module _ {S : Type 0} (mark : Kind → S) (d : S) where
 
   ends_length : (odd : Bool) (r : Rule) → length (ends odd r) ≡ inner_cells r
   ends_length odd r = marks_length (inward odd r) ∙ inward_cells odd r
-
-  read_later : (x : S) (xs : List S) (i : ℕ) → 0 < i → get_or (x ∷ xs) i d ≡ get_or xs (i - 1) d
-  read_later x xs i h = let z : i ≡ suc (i - 1) = omega arith in ap (λ j. get_or (x ∷ xs) j d) z
 
   pub letter_end : (odd : Bool) (t : Test) (cell : ℕ) → get_or (ends odd (letter t)) cell d ≡ d
   unfolding inner_marks inward
@@ -109,7 +107,7 @@ module _ {S : Type 0} (mark : Kind → S) (d : S) where
       let z : cell - 1 - cells_in a false ≡ cell - cells = omega arith in
       record {
         in_own = λ h. there ∙ own_read m a (ends odd r) cell (omega arith);
-        in_rest = λ l. there ∙ (read_later _ _ cell (omega arith)
+        in_rest = λ l. there ∙ (get_or_tail _ _ cell d (omega arith)
             ∙ (get_or-append_right (marked m (with_cell a)) (ends odd r) (cells_in a false) (cell - 1) d (tests_length m a) (omega arith)
             ∙ ap (λ i. get_or (ends odd r) i d) z));
       }
@@ -136,7 +134,7 @@ module _ {S : Type 0} (mark : Kind → S) (d : S) where
       let m = mark (kind_under odd k) in
       let there = ap (λ xs. get_or xs cell d) (turn_list odd k r a s whole w) in
       let later : 0 < cell → get_or (ends odd whole) cell d ≡ get_or (ends odd r ++ (marked m (with_cell a) ++ ends odd s)) (cell - 1) d =
-      λ h. there ∙ read_later _ _ cell h in
+      λ h. there ∙ get_or_tail _ _ cell d h in
       let behind : tests ≤ cell → get_or (ends odd whole) cell d ≡ get_or (marked m (with_cell a) ++ ends odd s) (cell - 1 - inner_cells r) d =
       λ l. later (omega arith) ∙ get_or-append_right (ends odd r) _ (inner_cells r) (cell - 1) d (ends_length odd r) (omega arith) in
       let z : cell - 1 - inner_cells r - cells_in a false ≡ cell - rest = omega arith in

@@ -1,6 +1,6 @@
 -- A list written over another from the front on. Assumes nothing.
-use Rattle.std.proofs.Common.{◌≡◌, ℕ, zero, suc, ◌+◌, ◌-◌, ◌<◌, ◌≤◌, List, [], ◌∷◌, ◌++◌, length, get_or, take, drop, set, replicate, refl, ap, ◌∙◌, ap₂, add-one, arith, length-append, take_all}
-use Rattle.std.proofs.lemmas.List.{take_at, length-drop, length-replicate}
+use Rattle.std.proofs.Common.{◌≡◌, ℕ, zero, suc, ◌+◌, ◌-◌, ◌<◌, ◌≤◌, List, [], ◌∷◌, ◌++◌, length, get_or, take, drop, set, replicate, refl, ap, add-one, arith, length-append, ◌∙◌, take_all}
+use Rattle.std.proofs.lemmas.List.{append-nil, drop_all, take_at, length-drop, length-replicate}
 
 module _ {X : Type 0} where
   filled_next : (xs old : List X) (k : ℕ) (d : X) → k < length xs → k < length old
@@ -15,9 +15,10 @@ module _ {X : Type 0} where
       → set now k v ≡ take (k + 1) xs ++ drop (k + 1) old
   filled_more xs old now k v d h l e r = rw (add-one, e, r) (filled_next xs old k d h l)
 
-  -- all values
-  pub filled_all : (xs old now : List X) (k n : ℕ) → now ≡ take k xs ++ drop k old → length xs ≡ n → k ≡ n → now ≡ xs ++ drop n old
-  filled_all xs old now k n e l q = e ∙ ap₂ ◌++◌ (take_all k xs (omega arith)) (ap (λ i. drop i old) q)
+  -- all of it
+  pub filled_whole : (xs old now : List X) (k : ℕ) → length xs ≤ k → length old ≤ k → now ≡ take k xs ++ drop k old → now ≡ xs
+  filled_whole xs old now k h l e =
+      e ∙ ap (λ r. r ++ drop k old) (take_all k xs h) ∙ ap (λ r. xs ++ r) (drop_all k old l) ∙ append-nil xs
 
   -- a text written at once stands in front
   pub front_is : (xs rest text : List X) → xs ≡ text → take (length text) (xs ++ rest) ≡ text

@@ -1,61 +1,34 @@
 -- A row as a list, by the halves of its list. Assumes nothing.
-use Rattle.std.proofs.Common.{◌≡◌, ℕ, zero, suc, ◌+◌, ◌-◌, ◌*◌, ◌/◌, ◌^◌, ◌≤◌, List, length, get_or, sym, refl, ap, ◌∙◌, ap₂, arith}
+use Rattle.std.proofs.Common.{◌≡◌, ℕ, zero, suc, ◌+◌, ◌*◌, ◌^◌, List, ◌++◌, length, get_or, sym, ap, ◌∙◌, ap₂, arith}
+use Rattle.std.proofs.Math.Nat.{pow-succ'}
 use Rattle.scale.specs.Laws.{Algebra, Lawful}
-use Rattle.std.proofs.lemmas.List.Edits.{length-between, get_or-between}
-use Rattle.std.proofs.lemmas.List.{get_or_read}
-use Rattle.std.specs.List.{between}
+use Rattle.std.proofs.lemmas.List.{get_or_append_left, get_or-append-add, get_or_read}
 use Rattle.cells.specs.RowAt.{listed}
-use Rattle.cells.specs.Rows.{halved}
-use Rattle.cells.proofs.Halves.{halved_same}
+use Rattle.cells.specs.Rows.{at, halved}
+use Rattle.cells.proofs.Halves.{at_halved, halved_same}
 
-twice : (n : ℕ) → (n ≡ 0 → ⊥) → 2 ^ n ≡ 2 * 2 ^ (n - 1)
-twice zero h = absurd (h refl)
-twice (suc n) h = omega (arith, ap (λ m. 2 ^ m) less)
-  where
-    less : n ≡ suc n - 1
-    less = omega arith
-
--- the halves of 2 ^ n values have 2 ^ (n - 1) each
-pub first_half : {S : Type 0} (n : ℕ) (xs : List S) → (n ≡ 0 → ⊥) → length xs ≡ 2 ^ n → length (between 0 (length xs / 2) xs) ≡ 2 ^ (n - 1)
-first_half n xs h e = length-between xs 0 (length xs / 2) (omega arith) ∙ omega (arith, twice n h)
-
-pub second_half : {S : Type 0} (n : ℕ) (xs : List S) → (n ≡ 0 → ⊥) → length xs ≡ 2 ^ n
-    → length (between (length xs / 2) (length xs) xs) ≡ 2 ^ (n - 1)
-second_half n xs h e = length-between xs (length xs / 2) (length xs) (omega arith) ∙ omega (arith, twice n h)
+-- one cell more has twice the corners
+pub twice_corners : (n m : ℕ) → n ≡ suc m → 2 ^ n ≡ 2 * 2 ^ m
+twice_corners n m h = rw h (pow-succ' 2 m)
 
 module _ {S : Type 0} {A : Algebra S} (L : Lawful A) where
-  -- a row of one cell more, by the halves of its list
-  listed_more : (n : ℕ) (xs : List S) (v : ℕ → S) (half whole : ℕ) → half ≡ 2 ^ n → whole ≡ 2 ^ suc n
-      → halved A (suc n) (listed A xs) v
-      ≡ A.join (halved A n (listed A (between 0 half xs)) v) (A.meet (v n) (halved A n (listed A (between half whole xs)) v))
-  unfolding halved
-  listed_more n xs v half whole e f = ap₂ (λ x y. A.join x (A.meet (v n) y))
-      (halved_same L n _ _ v (λ c l. ap (λ k. get_or xs k A.worst) (from_none c) ∙ sym (get_or-between xs 0 half c A.worst (omega arith))))
-      (halved_same L n _ _ v (λ c l. ap (λ k. get_or xs (k + c) A.worst) (sym e) ∙ sym (get_or-between xs half whole c A.worst (omega arith))))
-    where
-      from_none : (c : ℕ) → c ≡ 0 + c
-      from_none c = omega arith
-
   -- a row of no cells is its one value
-  pub one_value : (n : ℕ) (xs : List S) (v : ℕ → S) (x : S) → n ≡ 0 → length xs ≡ 2 ^ n → x ≡ get_or xs 0 x → x ≡ halved A n (listed A xs) v
+  pub one_value : (n : ℕ) (xs : List S) (v : ℕ → S) (x : S) → n ≡ 0 → length xs ≡ 2 ^ n → x ≡ get_or xs 0 x → x ≡ at A n (listed A xs) v
   unfolding halved
-  one_value zero xs v x z e read = get_or_read xs 0 x (omega arith) read A.worst
+  one_value zero xs v x z e read = get_or_read xs 0 x (omega arith) read A.worst ∙ sym (at_halved A L 0 (listed A xs) v)
   one_value (suc n) xs v x z e read = absurd (omega arith)
 
-  halves_joined : (n : ℕ) (xs : List S) (v : ℕ → S) → (n ≡ 0 → ⊥) → length xs ≡ 2 ^ n
-      → halved A n (listed A xs) v ≡ A.join (halved A (n - 1) (listed A (between 0 (length xs / 2) xs)) v)
-      (A.meet (v (n - 1)) (halved A (n - 1) (listed A (between (length xs / 2) (length xs) xs)) v))
-  halves_joined zero xs v h e = absurd (h refl)
-  halves_joined (suc n) xs v h e = rw less (listed_more n xs v (length xs / 2) (length xs) (omega arith) e)
-    where
-      less : suc n - 1 ≡ n
-      less = omega arith
+  halved_more : (n : ℕ) (low high : List S) (v : ℕ → S) → length low ≡ 2 ^ n
+      → halved A (suc n) (listed A (low ++ high)) v ≡ A.join (halved A n (listed A low) v) (A.meet (v n) (halved A n (listed A high) v))
+  unfolding halved
+  halved_more n low high v e = ap₂ (λ x y. A.join x (A.meet (v n) y))
+      (halved_same L n _ _ v (λ c l. get_or_append_left low high A.worst c (omega arith)))
+      (halved_same L n _ _ v (λ c l. ap (λ m. listed A (low ++ high) (m + c)) (sym e) ∙ get_or-append-add low high c A.worst))
 
-  -- a row of some cells, from the values of its halves and of its last cell
-  pub from_halves : (n : ℕ) (xs ws : List S) (x y p q m : S) → (n ≡ 0 → ⊥) → length xs ≡ 2 ^ n → n ≤ length ws
-      → p ≡ halved A (n - 1) (listed A (between 0 (length xs / 2) xs)) (listed A ws)
-      → q ≡ halved A (n - 1) (listed A (between (length xs / 2) (length xs) xs)) (listed A ws)
-      → y ≡ get_or ws (n - 1) y → m ≡ A.meet y q → x ≡ A.join p m → x ≡ halved A n (listed A xs) (listed A ws)
-  from_halves n xs ws x y p q m h e l without with_it read met joined = joined
-      ∙ (ap₂ A.join without (met ∙ ap₂ A.meet (get_or_read ws (n - 1) y (omega (arith, h)) read A.worst) with_it)
-      ∙ sym (halves_joined n xs (listed A ws) h e))
+  -- a row of one cell more, from its halves and the value of its last cell
+  pub from_halves : (n m : ℕ) (xs low high : List S) (v : ℕ → S) (x y p q : S) → n ≡ suc m → xs ≡ low ++ high → length low ≡ 2 ^ m
+      → p ≡ at A m (listed A low) v → q ≡ at A m (listed A high) v → y ≡ v m → x ≡ A.join p (A.meet y q)
+      → x ≡ at A n (listed A xs) v
+  from_halves n m xs low high v x y p q more is e without with_it last joined = rw (more, is) (joined
+      ∙ (ap₂ A.join (without ∙ at_halved A L m _ v) (ap₂ A.meet last (with_it ∙ at_halved A L m _ v))
+      ∙ (sym (halved_more m low high v e) ∙ sym (at_halved A L (suc m) _ v))))

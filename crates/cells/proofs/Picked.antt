@@ -1,8 +1,9 @@
 -- The joins and meets over picked tests are sums. Assumes nothing.
 use Rattle.std.proofs.Common.{◌≡◌, ℕ, Bool, true, false, cond, List, [], ◌∷◌, ◌++◌, length, Option, refl, ap, arith}
+use Rattle.cells.specs.Reading.{blended}
 use Rattle.cells.specs.Step.{some_after, every_after, some_of, every_of}
 use Rattle.cells.proofs.Sums.{sum}
-use Rattle.cells.proofs.Along.{plus, none}
+use Rattle.cells.proofs.Along.{none}
 use Rattle.rule.specs.declared.leaf.Test.{Test}
 use Rattle.scale.specs.Laws.{Algebra}
 
@@ -29,7 +30,7 @@ module _ {S : Type 0} (A : Algebra S) (value : Test → S) (after : ℕ → S) (
 module _ {S : Type 0} (A : Algebra S) (value : Test → S) (after : ℕ → S) where
   pub picked_is : (every : Bool) (op : S) (ps : List Bool) (ts : List Test) (cs : List (Option S)) (es : List Bool)
       → cond every (every_of A value after op ps ts cs es) (some_of A value after op ps ts cs es)
-      ≡ sum (plus A every) (none A every) ps (hits A value after every op ts cs es)
+      ≡ sum (blended A every) (none A every) ps (hits A value after every op ts cs es)
   picked_is every op [] ts cs es = refl
   picked_is every op (p ∷ ps) [] cs es = refl
   picked_is every op (p ∷ ps) (t ∷ ts) [] es = refl

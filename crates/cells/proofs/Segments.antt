@@ -4,12 +4,13 @@ use mathlib.Core.List.{map-append}
 use mathlib.Core.Path.{fun_ext}
 use lib.ListN.{length-map}
 use Rattle.cells.specs.Shape.{tests, none_of, firsts, endings, followers, with_cell}
+use Rattle.cells.specs.Reading.{blended}
 use Rattle.cells.specs.Step.{count_set, test_cells, wants_every, dealt, over_picked, next_before, followed_by, tests_before, marked}
 use Rattle.cells.specs.Meaning.{along, follow, present, tests_mean}
 use Rattle.cells.proofs.Sums.{sum}
 use Rattle.cells.proofs.Lengths.{none_length, endings_length}
 use Rattle.cells.proofs.Contexts.{worths, entered, followed}
-use Rattle.cells.proofs.Along.{plus, none, along_at, resumed, summing, along_end, along_test, parts, given, with_cell_is, kept, follows_kept}
+use Rattle.cells.proofs.Along.{none, along_at, resumed, summing, along_end, along_test, parts, given, with_cell_is, kept, follows_kept}
 use Rattle.cells.proofs.Picked.{hits, hits_append, picked_is}
 use Rattle.rule.specs.declared.leaf.Kind.{Kind}
 use Rattle.rule.specs.declared.leaf.Test.{Test}
@@ -50,7 +51,7 @@ module _ {S : Type 0} {A : Algebra S} (L : Lawful A) (value : Test → ℕ → S
   module _ (i : ℕ) (h : i < n) (after : ℕ → S) where
     module _ (every : Bool) where
       abbrev there : Segment → (ℕ → S) → List S
-      there a then = worths (plus A every) (none A every) (along_at A value n every i) (resumed A value n every) (λ b f. f) a then
+      there a then = worths (blended A every) (none A every) (along_at A value n every i) (resumed A value n every) (λ b f. f) a then
 
       abbrev told : S → List Test → List (Option (ℕ → S)) → List Bool → List S
       told op ts fs es = hits A (λ t. value t i) after every op ts (map (at A value n i) fs) es
@@ -87,9 +88,9 @@ module _ {S : Type 0} {A : Algebra S} (L : Lawful A) (value : Test → ℕ → S
     module _ (k : Kind) (a : Segment) (then : ℕ → S) (op base : ℕ) (own : after op ≡ then (suc i)) (reads : Reads after base (tests_mean A value n k a then (suc i))) where
       -- the step over a row of flags is the sum of what the row picks
       over_row : (row : List Bool) → over_picked A (λ t. value t i) after k a op base row
-          ≡ sum (plus A (wants_every k)) (none A (wants_every k)) row (there (wants_every k) a then)
+          ≡ sum (blended A (wants_every k)) (none A (wants_every k)) row (there (wants_every k) a then)
       over_row row = picked_is A (λ t. value t i) after (wants_every k) (after op) row (tests a) _ (endings a)
-          ∙ ap (sum (plus A (wants_every k)) (none A (wants_every k)) row) (ap₂ (λ x cs. hits A (λ t. value t i) after (wants_every k) x (tests a) cs (endings a)) own dealt_cells ∙ whole (wants_every k) a then)
+          ∙ ap (sum (blended A (wants_every k)) (none A (wants_every k)) row) (ap₂ (λ x cs. hits A (λ t. value t i) after (wants_every k) x (tests a) cs (endings a)) own dealt_cells ∙ whole (wants_every k) a then)
         where
           dealt_cells : dealt A (λ t. value t i) after (with_cell a) base ≡ map (at A value n i) (follow A value n (wants_every k) a then None)
           dealt_cells = ap (λ has. dealt A (λ t. value t i) after has base) (with_cell_is A value n (wants_every k) a then)

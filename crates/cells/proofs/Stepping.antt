@@ -5,7 +5,8 @@ use Rattle.semantics.specs.Inward.{inward}
 use Rattle.cells.specs.Step.{step, end_marks}
 use Rattle.cells.specs.Meaning.{cells_mean, Positive, steps, StepLaws, Stepping}
 use Rattle.cells.proofs.Rules.{ended_now, cells_end, cells_step}
-use Rattle.cells.proofs.Driven.{driven, turned_kind, turned, agree}
+use Rattle.cells.specs.Reading.{kind_under}
+use Rattle.cells.proofs.Driven.{driven, turned, agree}
 use Rattle.letter.specs.Heard.{Heard}
 use Rattle.rule.specs.declared.leaf.Channel.{Channel}
 use Rattle.rule.specs.declared.leaf.Kind.{Kind}
@@ -43,13 +44,13 @@ module _ {S : Type 0} {A : Algebra S} (L : Lawful A) where
       ap₂ (λ v (cells : List S). step A v (λ k. get_or cells k A.worst) r) (fun_ext (λ t. sym (same t 0) ∙ ap (value t) here)) rest
       ∙ cells_step L value n mark whole r p i (omega arith)
 
-  agrees : (marks : Marks S) (mark : Kind → S) → ((odd : Bool) (k : Kind) → mark (turned_kind odd k) ≡ turned A odd (marks odd k))
+  agrees : (marks : Marks S) (mark : Kind → S) → ((odd : Bool) (k : Kind) → mark (kind_under odd k) ≡ turned A odd (marks odd k))
       → (r : Rule) (log : List (Heard S)) (i : ℕ) → i < length log
       → worth_on A marks r log i ≡ worth A (value_on A log) (length log) (λ odd kind. mark kind) false (inward false r) i
   agrees marks mark at_marks r log i h =
       sym (agree L (value_on A log) (length log) marks mark at_marks (λ t i. test_flipped t.channel t.opposite _) false r i h)
 
-  worth_is : (marks : Marks S) (mark : Kind → S) (whole : S) → ((odd : Bool) (k : Kind) → mark (turned_kind odd k) ≡ turned A odd (marks odd k))
+  worth_is : (marks : Marks S) (mark : Kind → S) (whole : S) → ((odd : Bool) (k : Kind) → mark (kind_under odd k) ≡ turned A odd (marks odd k))
       → (r : Rule) (log : List (Heard S)) → 0 < length log
       → worth_on A marks r log 0 ≡ get_or (steps A (inward false r) log (end_marks whole mark (inward false r))) 0 A.worst
   worth_is marks mark whole at_marks r log h =
@@ -59,7 +60,7 @@ module _ {S : Type 0} {A : Algebra S} (L : Lawful A) where
       ∙ ap (λ cells. get_or cells 0 A.worst) (sym (steps_are value (length log) mark whole (inward false r) (driven false r) log 0 (omega arith)
       (λ t k. let here : 0 + k ≡ k = omega arith in ap (value t) here))))
 
-  verdict_turned : (odd : Bool) (k : Kind) → verdict_marks A false (turned_kind odd k) ≡ turned A odd (verdict_marks A odd k)
+  verdict_turned : (odd : Bool) (k : Kind) → verdict_marks A false (kind_under odd k) ≡ turned A odd (verdict_marks A odd k)
   verdict_turned false k = refl
   verdict_turned true SomeStrong = sym L.opposite_pending
   verdict_turned true SomeWeak = sym (opposite_presumed L)

@@ -3,12 +3,13 @@ use Rattle.std.proofs.Common.{◌≡◌, ℕ, zero, suc, ◌+◌, ◌-◌, ◌<�
 use mathlib.Core.List.{map-append}
 use mathlib.Core.Path.{fun_ext}
 use Rattle.cells.specs.Shape.{tests, none_of, firsts, endings, followers, with_cell}
+use Rattle.cells.specs.Reading.{blended}
 use Rattle.cells.specs.Step.{count_set, test_cells, wants_every, dealt, over_picked, next_before, followed_by, tests_before}
 use Rattle.cells.specs.Walk.{cells_in, enter, follow_at, one_test, Walked}
 use Rattle.cells.specs.Walk.{plus as walk_plus}
 use Rattle.cells.proofs.Sums.{sum}
 use Rattle.cells.proofs.Lengths.{none_length, endings_length}
-use Rattle.cells.proofs.Along.{plus, none, summing}
+use Rattle.cells.proofs.Along.{none, summing}
 use Rattle.cells.proofs.Contexts.{Parts, worths, follows, follows_length, entered, followed, celled, with_cell_celled}
 use Rattle.cells.proofs.Picked.{one_hit, hits, hits_append, picked_is}
 use Rattle.rule.specs.declared.leaf.Kind.{Kind}
@@ -137,19 +138,19 @@ module _ {S : Type 0} {A : Algebra S} (L : Lawful A) (value : Test → S) (after
     worth a c = enter A value after op every a c.0 c.1 c.2
 
     abbrev each : Segment → Place → List S
-    each a c = worths (plus A every) (none A every) worth left right a c
+    each a c = worths (blended A every) (none A every) worth left right a c
 
     abbrev afters : Segment → Place → S → List S
-    afters a c within = follows (plus A every) (none A every) worth left right a c within
+    afters a c within = follows (blended A every) (none A every) worth left right a c within
 
     fits : (a : Segment) (inside : Bool) (c : Place) (within : S) → length (celled a inside) ≡ length (afters a c within)
     fits a inside c within = celled_length a inside ∙ sym (follows_length _ _ _ _ _ a c within)
 
-  same_plus : (every : Bool) (x y : S) → walk_plus A value after op every x y ≡ plus A every x y
+  same_plus : (every : Bool) (x y : S) → walk_plus A value after op every x y ≡ blended A every x y
   same_plus true x y = refl
   same_plus false x y = refl
 
-  parts : (every : Bool) → Parts (plus A every) (none A every) (worth every) left right
+  parts : (every : Bool) → Parts (blended A every) (none A every) (worth every) left right
   unfolding enter
   parts every = record {
     by_either = λ a b c. same_plus every _ _;
@@ -210,9 +211,9 @@ module _ {S : Type 0} {A : Algebra S} (L : Lawful A) (value : Test → S) (after
 
   module _ (k : Kind) (a : Segment) (base : ℕ) where
     over_row : (row : List Bool) → over_picked A value after k a op base row
-        ≡ sum (plus A (wants_every k)) (none A (wants_every k)) row (each (wants_every k) a (false, true, base))
+        ≡ sum (blended A (wants_every k)) (none A (wants_every k)) row (each (wants_every k) a (false, true, base))
     over_row row = picked_is A value after (wants_every k) (after op) row (tests a) _ (endings a)
-        ∙ ap (sum (plus A (wants_every k)) (none A (wants_every k)) row)
+        ∙ ap (sum (blended A (wants_every k)) (none A (wants_every k)) row)
         (ap (λ has. told (wants_every k) (tests a) has base (endings a)) (with_cell_celled a) ∙ told_each (wants_every k) a false true base)
 
     entered_is : enter A value after op (wants_every k) a false true base ≡ next_before A value after k a op base

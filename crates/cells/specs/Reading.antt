@@ -1,13 +1,13 @@
 -- What the step reads: a letter's tests, the cells after it, and where a segment stands. Assumes nothing.
-use Rattle.std.specs.Prelude.{ℕ, Bool, false, cond, List, slice_index_or}
-use Rattle.semantics.specs.Inward.{dual, inward}
+use Rattle.std.specs.Prelude.{ℕ, Bool, false, cond, not, List, slice_index_or}
+pub use Rattle.rule.specs.Kinds.{kind_under}
+use Rattle.semantics.specs.Inward.{inward}
 use Rattle.cells.specs.Step.{before, befores, step}
 use Rattle.cells.specs.Walk.{one_test, cell_if, enter, follow_at}
 use Rattle.cells.specs.declared.place.Place.{Place}
 use Rattle.letter.specs.Heard.{Heard}
-use Rattle.rule.specs.declared.leaf.Kind.{Kind}
 use Rattle.rule.specs.declared.leaf.Test.{Test}
-use Rattle.rule.specs.Tree.{Segment, Rule}
+use Rattle.rule.specs.Tree.{Segment, Rule, letter, negated, both, any, next, until, release}
 use Rattle.scale.specs.Laws.{Algebra}
 use Rattle.semantics.specs.Reports.{test_on}
 
@@ -23,9 +23,15 @@ cells_of A after k = slice_index_or after k A.worst
 abbrev pub blended : {S : Type 0} → Algebra S → Bool → S → S → S
 blended A every x y = cond every (A.meet x y) (A.join x y)
 
--- the kind that stands for another where `!` is driven inward
-abbrev pub kind_under : Bool → Kind → Kind
-kind_under odd k = cond odd (dual k) k
+-- does a rule of two parts meet them, as `&` and R do, or join them; the flag stands for its opposite
+abbrev pub meets_parts : Bool → Rule → Bool
+meets_parts odd (letter t) = odd
+meets_parts odd (negated r) = odd
+meets_parts odd (both r s) = not odd
+meets_parts odd (any r s) = odd
+meets_parts odd (next k a r) = odd
+meets_parts odd (until k r a s) = odd
+meets_parts odd (release k r a s) = not odd
 
 -- what comes after a test at a place: its cell, if it is inside, and the operator's, if it ends the match
 abbrev pub after_test : {S : Type 0} → Algebra S → List S → Place → S

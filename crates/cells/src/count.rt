@@ -7,14 +7,15 @@ ghost use Rattle.rule.specs.Stands.{segment_of, rule_of};
 
 use rule::tree::{Rule, Segment};
 
-// The tests of a segment that have a cell; inside says that a test around it may follow its last letter.
+// The tests of a segment that have a cell; inside says that a test around it may follow its last letter: the flag of the
+// definition. That a tree is small is asked here and below for parts of trees too, so no type of whole rules can say it.
 pub fn segment_cells(segment: &Segment, inside: bool) -> usize
     requires { segment_size (segment_of segment.now) ≤ 64 }
     ensures counted { result ≡ cells_in (segment_of segment.now) inside }
     ensures few { result ≤ segment_size (segment_of segment.now) }
 {
     match segment {
-        Segment::Single(_) => { if inside { 1 } else { 0 } }
+        Segment::Single(_) => usize::from(inside),
         Segment::Either(first, second) => segment_cells(first, inside)
             + segment_cells(second, inside),
         Segment::Chain(first, second) | Segment::Star(first, second) => {
@@ -24,6 +25,7 @@ pub fn segment_cells(segment: &Segment, inside: bool) -> usize
 }
 
 // The cells of a rule beside cell 0.
+#[tactic(auto, using(crate::proofs::Walking::counted), unfolding(crate::specs::Step::inner_cells))]
 pub fn rule_cells(rule: &Rule) -> usize
     requires { size (rule_of rule.now) ≤ 64 }
     ensures counted { result ≡ inner_cells (rule_of rule.now) }

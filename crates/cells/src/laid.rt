@@ -7,7 +7,7 @@ ghost use Rattle.rule.specs.Stands.{rule_of};
 
 use rule::tree::Rule;
 
-// A rule of at most 48 nodes that has at most 8 cells, and how many they are.
+// A rule of at most 48 nodes that has at most 8 cells, and how many they are (not the length of anything beside it).
 #[derive(Drop)]
 pub struct Laid {
     pub rule: Rule,

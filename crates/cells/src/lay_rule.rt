@@ -3,7 +3,7 @@ ghost use Rattle.cells.specs.LaysRule.{LaysRule};
 
 use crate::laid_rule::LaidRule;
 use crate::lay::lay;
-use crate::text_bytes::text_from;
+use crate::text::RuleText;
 use fault::CellFault;
 use std::alloc::Global;
 
@@ -14,6 +14,6 @@ pub fn lay_rule(heap: Global, text: &[u8]) -> Result<LaidRule, CellFault>
     let laid = lay(heap, text)?;
     Ok(LaidRule {
         laid,
-        text: text_from(text),
+        text: RuleText::of(text),
     })
 }

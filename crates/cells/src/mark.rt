@@ -13,18 +13,17 @@ use crate::laid::Laid;
 use rule::leaf::Kind;
 use rule::tree::Rule;
 use scale::order::Scale;
+use semantics::mark::kind_mark;
 
 // The mark of a kind; odd says that the operator stands for its opposite.
-fn kind_mark<S: Scale>(kind: Kind, odd: bool) -> S
+fn mark_under<S: Scale>(kind: Kind, odd: bool) -> S
     ensures { result ≡ mark_of S.Scale.algebra (kind_under odd kind) }
 {
-    match kind {
-        Kind::SomeStrong | Kind::EveryStrong => { if odd { S::presumed() } else { S::pending() } }
-        Kind::SomeWeak | Kind::EveryWeak => { if odd { S::pending() } else { S::presumed() } }
-    }
+    kind_mark(kind.under(odd))
 }
 
-// One of the rule's cells at the log's end; worst past the last.
+// One of the rule's cells at the log's end; worst past the last. It goes down the rule as what works out a cell before a letter
+// does; one function for both would need a type parameter for what it takes along, which only its proof would use.
 fn inner_mark<S: Scale>(rule: &Rule, odd: bool, cell: usize) -> S
     requires { size (rule_of rule.now) ≤ 64 }
     ensures { result ≡ slice_index_or (inner_marks (mark_of S.Scale.algebra) (inward odd (rule_of rule.now))) cell S.Scale.algebra.worst }
@@ -43,7 +42,7 @@ fn inner_mark<S: Scale>(rule: &Rule, odd: bool, cell: usize) -> S
         Rule::Next(kind, segment, inner) => {
             let cells = 1 + segment_cells(segment, false);
             if cell < cells {
-                kind_mark(*kind, odd)
+                mark_under(*kind, odd)
             } else {
                 inner_mark(inner, odd, cell - cells)
             }
@@ -52,11 +51,11 @@ fn inner_mark<S: Scale>(rule: &Rule, odd: bool, cell: usize) -> S
             let tests = 1 + rule_cells(hold);
             let rest = tests + segment_cells(segment, false);
             if cell == 0 {
-                kind_mark(*kind, odd)
+                mark_under(*kind, odd)
             } else if cell < tests {
                 inner_mark(hold, odd, cell - 1)
             } else if cell < rest {
-                kind_mark(*kind, odd)
+                mark_under(*kind, odd)
             } else {
                 inner_mark(goal, odd, cell - rest)
             }
@@ -69,12 +68,10 @@ impl Laid {
     pub fn mark<S: Scale>(&self, cell: usize) -> Option<S>
         ensures { result ≡ marked_cell S.Scale.algebra (rule_of self.now.rule) cell }
     {
-        if cell >= self.count {
-            return None;
+        match cell {
+            0 => Some(S::pending()),
+            _ if cell < self.count => Some(inner_mark(&self.rule, false, cell - 1)),
+            _ => None,
         }
-        if cell == 0 {
-            return Some(S::pending());
-        }
-        Some(inner_mark(&self.rule, false, cell - 1))
     }
 }

@@ -6,7 +6,9 @@ ghost use Rattle.cells.specs.Step.{wants_every};
 use rule::leaf::Kind;
 
 // The operator of a segment wants every match, or some match, and has cell number op; the segment's test cells begin
-// at base. Inside says that a test around the segment may follow its last letter, ends that this letter may end the match.
+// at base. Inside says that a test around the segment may follow its last letter, ends that this letter may end the match: two
+// flags, since what a test is worth is defined for either and for both. Every is a flag too, and no closure that meets or joins: it
+// goes down the segment with the rest, where a closure would be a type parameter of each step.
 #[derive(Clone, Copy)]
 pub struct Place {
     pub every: bool,
@@ -21,10 +23,7 @@ impl Place {
     pub fn of(kind: Kind, odd: bool, op: usize, base: usize) -> Place
         ensures { result ≡ record { every = wants_every (kind_under odd kind); op = op; inside = false; ends = true; base = base } }
     {
-        let every = match kind {
-            Kind::SomeStrong | Kind::SomeWeak => odd,
-            Kind::EveryStrong | Kind::EveryWeak => !odd,
-        };
+        let every = matches!(kind.under(odd), Kind::EveryStrong | Kind::EveryWeak);
         Place {
             every,
             op,

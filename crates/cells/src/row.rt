@@ -1,7 +1,7 @@
 // A row at cell values.
-ghost use Rattle.std.specs.Prelude.{◌≡◌, ℕ, ◌^◌, ◌≤◌, length};
-ghost use Rattle.cells.specs.RowAt.{listed, RowAt};
-ghost use Rattle.cells.specs.Rows.{halved, RowLaws};
+ghost use Rattle.std.specs.Prelude.{◌≡◌, ℕ, ◌^◌, ◌<◌, length};
+ghost use Rattle.cells.specs.RowAt.{listed, RowAt, RowBy, Gives};
+ghost use Rattle.cells.specs.Rows.{at, RowLaws};
 
 use scale::order::Scale;
 
@@ -11,33 +11,33 @@ pub fn row_at<S: Scale>(row: &[S], cells: &[S]) -> Option<S>
     ensures answer { RowAt S.Scale.algebra row.now cells.now result }
     ensures laws { (n : ℕ) → RowLaws S.Scale.algebra n }
 {
-    fitting_row_at(row, cells)
+    row_by(row, cells.len(), |cell| cells[cell])
 }
 
-// The answer of row_at.
-fn fitting_row_at<S: Scale>(row: &[S], cells: &[S]) -> Option<S>
-    ensures { RowAt S.Scale.algebra row.now cells.now result }
+// The row of so many cells at the values that a closure gives for them, and none exactly where the row has not 2 ^ n values
+// for n cells.
+pub fn row_by<S: Scale, F: Fn(usize) -> S>(row: &[S], cells: usize, value: F) -> Option<S>
+    requires { (cell : ℕ) → cell < cells → F.pre value cell }
+    ensures { RowBy S.Scale.algebra row.now cells (F.post value) result }
 {
-    let n = cells.len();
-    if n < 64 && row.len() == 1usize << n {
-        Some(halve(row, cells, n))
+    if cells < 64 && row.len() == 1usize << cells {
+        Some(halve(row, cells, &value))
     } else {
         None
     }
 }
 
-// The row of the first n cells at their values: the half without the last of them, joined with its value met with the
-// half with it.
-fn halve<S: Scale>(row: &[S], cells: &[S], n: usize) -> S
-    requires whole { length row.now ≡ 2 ^ n }
-    requires some { n ≤ length cells.now }
-    ensures { result ≡ halved S.Scale.algebra n (listed S.Scale.algebra row.now) (listed S.Scale.algebra cells.now) }
+// The row of so many cells at their values: the half without the last of them, joined with its value met with the half
+// with it.
+fn halve<S: Scale, F: Fn(usize) -> S>(row: &[S], cells: usize, value: &F) -> S
+    requires whole { length row.now ≡ 2 ^ cells }
+    requires callable { (cell : ℕ) → cell < cells → F.pre value.now cell }
+    ensures { (v : ℕ → S) → Gives (F.post value.now) cells v → result ≡ at S.Scale.algebra cells (listed S.Scale.algebra row.now) v }
 {
-    if n == 0 {
+    if cells == 0 {
         return row[0];
     }
-    let half = row.len() / 2;
-    let without = halve(&row[0..half], cells, n - 1);
-    let with = halve(&row[half..], cells, n - 1);
-    without.join(cells[n - 1].meet(with))
+    let (without, with) = row.split_at(row.len() / 2);
+    let last = value(cells - 1);
+    halve(without, cells - 1, value).join(last.meet(halve(with, cells - 1, value)))
 }

@@ -7,12 +7,12 @@ ghost use Rattle.cells.specs.Tables.{TableLaws};
 ghost use Rattle.cells.specs.Walk.{Walked};
 ghost use Rattle.rule.specs.Stands.{rule_of};
 
-use crate::before::{inner_before, rule_before};
+use crate::ahead::Ahead;
 use crate::laid::Laid;
 use letter::kind::Letter;
 use scale::order::Scale;
 
-// Why a step is not taken.
+// Why a step is not taken: an error of its own, so that callers can match it.
 #[derive(Clone, Copy, PartialEq, Eq, Debug)]
 pub enum StepFault {
     // There are fewer values than cells.
@@ -20,33 +20,23 @@ pub enum StepFault {
 }
 
 // A cell before the letter; cell 0 is the whole rule.
-fn cell_before<S: Scale, L: Letter<Scale = S>>(
-    laid: &Laid,
-    cell: usize,
-    letter: &L,
-    after: &[S],
-) -> S
-    ensures { result ≡ slice_index_or (cells_before S.Scale.algebra (L.Letter.heard letter.now) after.now (rule_of laid.now.rule)) cell S.Scale.algebra.worst }
+fn cell_before<S: Scale, L: Letter<Scale = S>>(laid: &Laid, cell: usize, ahead: &Ahead<S, L>) -> S
+    ensures { result ≡ slice_index_or (cells_before S.Scale.algebra (L.Letter.heard ahead.now.letter.now) ahead.now.after.now (rule_of laid.now.rule)) cell S.Scale.algebra.worst }
 {
     if cell == 0 {
-        rule_before(&laid.rule, false, 1, letter, after)
+        ahead.rule_before(&laid.rule, false, 1)
     } else {
-        inner_before(&laid.rule, false, 1, cell, letter, after)
+        ahead.inner_before(&laid.rule, false, 1, cell)
     }
 }
 
 // Writes all cells before the letter.
-fn write_cells<S: Scale, L: Letter<Scale = S>>(
-    laid: &Laid,
-    letter: &L,
-    after: &[S],
-    before: &mut [S],
-)
-    requires { laid.now.count ≤ length before.old }
-    ensures { before.new ≡ cells_before S.Scale.algebra (L.Letter.heard letter.now) after.now (rule_of laid.now.rule) ++ drop laid.now.count before.old }
+fn write_cells<S: Scale, L: Letter<Scale = S>>(laid: &Laid, ahead: &Ahead<S, L>, before: &mut [S])
+    requires { length before.old ≡ laid.now.count }
+    ensures { before.new ≡ cells_before S.Scale.algebra (L.Letter.heard ahead.now.letter.now) ahead.now.after.now (rule_of laid.now.rule) }
 {
-    for cell in 0..laid.count {
-        before[cell] = cell_before(laid, cell, letter, after);
+    for (cell, value) in before.iter_mut().enumerate() {
+        *value = cell_before(laid, cell, ahead);
     }
 }
 
@@ -59,13 +49,10 @@ fn stepped<S: Scale, L: Letter<Scale = S>>(
 ) -> Result<(), StepFault>
     ensures { Done S.Scale.algebra (L.Letter.heard letter.now) (rule_of laid.now.rule) after.now before.old before.new result }
 {
-    if after.len() < laid.count {
+    if after.len() < laid.count || before.len() < laid.count {
         return Err(StepFault::Short);
     }
-    if before.len() < laid.count {
-        return Err(StepFault::Short);
-    }
-    write_cells(laid, letter, after, before);
+    write_cells(laid, &Ahead { letter, after }, &mut before[..laid.count]);
     Ok(())
 }
 

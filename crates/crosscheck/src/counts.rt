@@ -1,21 +1,13 @@
 // What was compared, and how often it differed.
 
 // The comparisons of one kind.
-#[derive(Clone, Copy)]
+#[derive(Clone, Copy, Default)]
 pub(crate) struct Tally {
     pub(crate) made: u64,
     pub(crate) differed: u64,
 }
 
 impl Tally {
-    // None yet.
-    pub(crate) fn none() -> Tally {
-        Tally {
-            made: 0,
-            differed: 0,
-        }
-    }
-
     // One more comparison.
     pub(crate) fn note(&mut self, same: bool) {
         self.made = self.made.saturating_add(1);
@@ -26,7 +18,7 @@ impl Tally {
 }
 
 // The counts of a run.
-#[derive(Clone, Copy)]
+#[derive(Clone, Copy, Default)]
 pub(crate) struct Counts {
     // the texts that were passed over
     pub(crate) passed: u64,
@@ -42,19 +34,4 @@ pub(crate) struct Counts {
     pub(crate) equal: Tally,
     // the reports of a watch that took in a summary
     pub(crate) applied: Tally,
-}
-
-impl Counts {
-    // Nothing yet.
-    pub(crate) fn none() -> Counts {
-        Counts {
-            passed: 0,
-            prefixes: 0,
-            watch: Tally::none(),
-            whole: Tally::none(),
-            joined: Tally::none(),
-            equal: Tally::none(),
-            applied: Tally::none(),
-        }
-    }
 }

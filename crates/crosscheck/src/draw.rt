@@ -1,5 +1,5 @@
 // Draws of numbers: the same at every run.
-ghost use Rattle.std.specs.Prelude.{◌<◌, ◌≤◌};
+ghost use Rattle.std.specs.Prelude.{◌<◌, ◌≤◌, length};
 
 // Where the draws stand.
 #[derive(Drop)]
@@ -28,5 +28,12 @@ impl Draw {
             return 0;
         }
         self.below(highest + 1)
+    }
+
+    // One of some choices.
+    pub(crate) fn one_of<T: Copy>(&mut self, choices: &[T]) -> T
+        requires { 0 < length choices.now }
+    {
+        choices[self.below(choices.len())]
     }
 }

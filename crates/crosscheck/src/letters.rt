@@ -3,37 +3,16 @@ use crate::draw::Draw;
 use letter::bits::Bits;
 use letter::measured::Measured;
 use std::alloc::{AllocError, Global};
+use std::array;
 
 // Letters that can be drawn.
 pub(crate) trait Drawn: Copy + Sized {
     fn drawn(draw: &mut Draw) -> Self;
 }
 
-// A number from -3 to 3.
-fn near_zero(draw: &mut Draw) -> i16 {
-    draw.below(7) as i16 - 3
-}
-
 // A number from -3 to 3 for each channel.
-fn sixteen(draw: &mut Draw) -> [i16; 16] {
-    [
-        near_zero(draw),
-        near_zero(draw),
-        near_zero(draw),
-        near_zero(draw),
-        near_zero(draw),
-        near_zero(draw),
-        near_zero(draw),
-        near_zero(draw),
-        near_zero(draw),
-        near_zero(draw),
-        near_zero(draw),
-        near_zero(draw),
-        near_zero(draw),
-        near_zero(draw),
-        near_zero(draw),
-        near_zero(draw),
-    ]
+fn near_zero(draw: &mut Draw) -> [i16; 16] {
+    array::from_fn(|_| draw.below(7) as i16 - 3)
 }
 
 impl Drawn for Bits {
@@ -47,8 +26,8 @@ impl Drawn for Bits {
 impl Drawn for Measured {
     fn drawn(draw: &mut Draw) -> Measured {
         Measured {
-            readings: sixteen(draw),
-            limits: sixteen(draw),
+            readings: near_zero(draw),
+            limits: near_zero(draw),
         }
     }
 }
@@ -59,9 +38,5 @@ pub(crate) fn log_of<L: Drawn>(
     draw: &mut Draw,
     length: usize,
 ) -> Result<Vec<L>, AllocError> {
-    let mut log = Vec::new(heap);
-    for _ in 0..length {
-        log.push(L::drawn(draw))?;
-    }
-    Ok(log)
+    (0..length).map(|_| L::drawn(draw)).collect(heap)
 }

@@ -1,4 +1,6 @@
 // Drawn rule texts, over all tests, segments, operators and kinds.
+ghost use Rattle.std.specs.Prelude.{◌<◌, length};
+
 use crate::draw::Draw;
 use std::alloc::{AllocError, Global};
 
@@ -20,72 +22,85 @@ const JOINTS: [u8; 2] = *b"&+";
 
 const COURSES: [u8; 2] = *b"UR";
 
-// Puts a test.
-fn put_test(draw: &mut Draw, text: &mut Vec<u8>) -> Result<(), AllocError> {
-    match draw.below(10) {
-        0 => text.push(b'y')?,
-        1 => text.push(b'n')?,
-        _ => {
-            for byte in CHANNEL_TESTS[draw.below(8)] {
-                text.push(*byte)?;
+// A text that is being drawn.
+#[derive(Drop)]
+struct Drawing<'d> {
+    draw: &'d mut Draw,
+    text: Vec<u8>,
+}
+
+impl<'d> Drawing<'d> {
+    // Puts one of some signs.
+    fn put_one_of(&mut self, signs: &[u8]) -> Result<(), AllocError>
+        requires { 0 < length signs.now }
+    {
+        let sign = self.draw.one_of(signs);
+        self.text.push(sign)?;
+        Ok(())
+    }
+
+    // Puts a test.
+    fn put_test(&mut self) -> Result<(), AllocError> {
+        match self.draw.below(10) {
+            0 => self.text.push(b'y')?,
+            1 => self.text.push(b'n')?,
+            _ => self
+                .text
+                .extend_from_slice(self.draw.one_of(&CHANNEL_TESTS))?,
+        }
+        Ok(())
+    }
+
+    // Puts a segment.
+    fn put_segment(&mut self, depth: u8) -> Result<(), AllocError> {
+        if depth == 0 || self.draw.below(3) == 0 {
+            return self.put_test();
+        }
+        self.put_one_of(&PAIRINGS)?;
+        self.put_segment(depth - 1)?;
+        self.put_segment(depth - 1)
+    }
+
+    // Puts a rule.
+    fn put_rule(&mut self, depth: usize) -> Result<(), AllocError> {
+        if depth == 0 {
+            return self.put_test();
+        }
+        let inner = depth - 1;
+        match self.draw.below(9) {
+            0 => self.put_test(),
+            1 => {
+                self.text.push(b'!')?;
+                self.put_rule(inner)
             }
-        }
-    }
-    Ok(())
-}
-
-// Puts a kind.
-fn put_kind(draw: &mut Draw, text: &mut Vec<u8>) -> Result<(), AllocError> {
-    text.push(KINDS[draw.below(4)])?;
-    Ok(())
-}
-
-// Puts a segment.
-fn put_segment(draw: &mut Draw, depth: u8, text: &mut Vec<u8>) -> Result<(), AllocError> {
-    if depth == 0 || draw.below(3) == 0 {
-        return put_test(draw, text);
-    }
-    text.push(PAIRINGS[draw.below(3)])?;
-    put_segment(draw, depth - 1, text)?;
-    put_segment(draw, depth - 1, text)
-}
-
-// Puts a rule.
-fn put_rule(draw: &mut Draw, depth: usize, text: &mut Vec<u8>) -> Result<(), AllocError> {
-    if depth == 0 {
-        return put_test(draw, text);
-    }
-    let inner = depth - 1;
-    match draw.below(9) {
-        0 => put_test(draw, text),
-        1 => {
-            text.push(b'!')?;
-            put_rule(draw, inner, text)
-        }
-        2 | 3 => {
-            text.push(JOINTS[draw.below(2)])?;
-            put_rule(draw, inner, text)?;
-            put_rule(draw, inner, text)
-        }
-        4 | 5 | 6 => {
-            put_kind(draw, text)?;
-            put_segment(draw, SEGMENT_DEPTH, text)?;
-            put_rule(draw, inner, text)
-        }
-        _ => {
-            text.push(COURSES[draw.below(2)])?;
-            put_kind(draw, text)?;
-            put_rule(draw, inner, text)?;
-            put_segment(draw, SEGMENT_DEPTH, text)?;
-            put_rule(draw, inner, text)
+            2 | 3 => {
+                self.put_one_of(&JOINTS)?;
+                self.put_rule(inner)?;
+                self.put_rule(inner)
+            }
+            4 | 5 | 6 => {
+                self.put_one_of(&KINDS)?;
+                self.put_segment(SEGMENT_DEPTH)?;
+                self.put_rule(inner)
+            }
+            _ => {
+                self.put_one_of(&COURSES)?;
+                self.put_one_of(&KINDS)?;
+                self.put_rule(inner)?;
+                self.put_segment(SEGMENT_DEPTH)?;
+                self.put_rule(inner)
+            }
         }
     }
 }
 
 // A rule text; it may be too long, or have too many nodes or cells.
 pub(crate) fn rule_text(heap: Global, draw: &mut Draw) -> Result<Vec<u8>, AllocError> {
-    let mut text = Vec::new(heap);
     let depth = draw.up_to(RULE_DEPTH);
-    put_rule(draw, depth, &mut text)?;
-    Ok(text)
+    let mut drawing = Drawing {
+        draw,
+        text: Vec::new(heap),
+    };
+    drawing.put_rule(depth)?;
+    Ok(drawing.text)
 }

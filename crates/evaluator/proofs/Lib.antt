@@ -1,8 +1,8 @@
 pub mod Filled
-pub mod Letters
 pub mod Loops
 pub mod Parts
-pub mod Repeats
+pub mod Ranged
 pub mod Rules
 pub mod Segments
+pub mod Steps
 pub mod Turning

@@ -1,15 +1,12 @@
 -- What is made of equal parts is equal. Assumes nothing.
-use Rattle.std.proofs.Common.{◌≡◌, ℕ, zero, suc, ◌-◌, ◌<◌, ◌≤◌, cond, eqb, refl, ap, ap₂, arith}
+use Rattle.std.proofs.Common.{◌≡◌, ℕ, zero, suc, ◌-◌, ◌<◌, ◌≤◌, ◌⊎◌, cond, eqb, sym, refl, ap, ◌∙◌, subst, ap₂, ⊎_elim, arith}
 use Rattle.rule.specs.declared.leaf.Kind.{Kind}
 use Rattle.rule.specs.declared.leaf.Kind.TheVariants.{SomeStrong, SomeWeak, EveryStrong, EveryWeak}
 use Rattle.scale.specs.Laws.{Algebra}
-use Rattle.evaluator.specs.declared.mode.Mode.{Mode}
-use Rattle.evaluator.specs.declared.mode.Mode.TheVariants.{Join, Meet}
-use Rattle.evaluator.specs.declared.mode.Way.{Way}
-use Rattle.evaluator.specs.declared.mode.Way.TheVariants.{Either, Chain, Star}
-use Rattle.evaluator.specs.Parts.{turned, pair_matches, way_open, pair_open, star_open, some_part, every_part, next_part}
+use Rattle.evaluator.specs.Parts.{either_match, chain_match, star_match, ending, either_open, chain_open, star_open, some_part, every_part, next_part}
 use Rattle.semantics.specs.Positions.{paths, repeats}
 use Rattle.semantics.proofs.Bounds.{join_over_same, meet_over_same}
+use Rattle.std.proofs.lemmas.Bool.{cases_eq, eq-eqb, cond-true}
 
 -- two grids, and two rows, that agree at the positions below the size
 abbrev pub Alike : {S : Type 0} → ℕ → (ℕ → ℕ → S) → (ℕ → ℕ → S) → Type 0
@@ -19,28 +16,31 @@ abbrev pub Same : {S : Type 0} → ℕ → (ℕ → S) → (ℕ → S) → Type 
 Same size o o' = (i : ℕ) → i < size → o i ≡ o' i
 
 module _ {S : Type 0} (A : Algebra S) where
-  pub pair_matches_same : (way : Way) (a a' b b' : ℕ → ℕ → S) (size : ℕ) → Alike size a a' → Alike size b b' → Alike size (pair_matches A way a b) (pair_matches A way a' b')
-  pair_matches_same Either a a' b b' size f s i j l m = ap₂ A.join (f i j l m) (s i j l m)
-  pair_matches_same Chain a a' b b' size f s i j l m =
+  pub either_match_same : (size : ℕ) (a a' b b' : ℕ → ℕ → S) → Alike size a a' → Alike size b b' → Alike size (either_match A a b) (either_match A a' b')
+  either_match_same size a a' b b' f s i j l m = ap₂ A.join (f i j l m) (s i j l m)
+
+  pub chain_match_same : (size : ℕ) (a a' b b' : ℕ → ℕ → S) → Alike size a a' → Alike size b b' → Alike size (chain_match A a b) (chain_match A a' b')
+  chain_match_same size a a' b b' f s i j l m =
       join_over_same A (suc i) j _ _ (λ k low high. ap₂ A.meet (f i k l (omega arith)) (s k j (omega arith) m))
-  pair_matches_same Star a a' b b' size f s i j l m =
+
+  pub star_match_same : (size : ℕ) (a a' b b' : ℕ → ℕ → S) → Alike size a a' → Alike size b b' → Alike size (star_match A a b) (star_match A a' b')
+  star_match_same size a a' b b' f s i j l m =
       join_over_same A i j _ _ (λ k low high. ap₂ A.meet (f i k l (omega arith)) (s k j (omega arith) m))
 
-  way_open_same : (way : Way) (n : ℕ) (a a' : ℕ → ℕ → S) (f f' s s' : ℕ → S) → Alike (suc n) a a' → Same (suc n) f f' → Same (suc n) s s'
-      → Same (suc n) (way_open A way n a f s) (way_open A way n a' f' s')
-  way_open_same Either n a a' f f' s s' p q r i l = ap₂ A.join (q i l) (r i l)
-  way_open_same Chain n a a' f f' s s' p q r i l =
-      ap₂ A.join (q i l) (join_over_same A (suc i) (suc n) _ _ (λ k low high. ap₂ A.meet (p i k l high) (r k high)))
-  way_open_same Star n a a' f f' s s' p q r i l = join_over_same A i (suc n) _ _ (λ k low high. ap₂ A.meet (p i k l high) (r k high))
+  pub ending_same : (n : ℕ) (o o' : ℕ → S) → Same n o o' → Same (suc n) (ending A n o) (ending A n o')
+  ending_same n o o' h i l = ⊎_elim (λ e. cond-true _ _ _ (eq-eqb i n e) ∙ sym (cond-true _ _ _ (eq-eqb i n e)))
+      (λ ne. ap (cond (eqb i n) A.best) (h i (omega arith))) (cases_eq i n)
 
-  pub pair_open_same : (way : Way) (n : ℕ) (a a' : ℕ → ℕ → S) (f f' s s' : ℕ → S) → Alike (suc n) a a' → Same (suc n) f f' → Same (suc n) s s'
-      → Same (suc n) (pair_open A way n a f s) (pair_open A way n a' f' s')
-  pair_open_same way n a a' f f' s s' p q r i l = ap (cond (eqb i n) A.best) (way_open_same way n a a' f f' s s' p q r i l)
+  module _ (n : ℕ) (a a' : ℕ → ℕ → S) (f f' s s' : ℕ → S) (p : Alike (suc n) a a') (q : Same (suc n) f f') (r : Same (suc n) s s') where
+    pub either_open_same : Same n (either_open A f s) (either_open A f' s')
+    either_open_same i l = ap₂ A.join (q i (omega arith)) (r i (omega arith))
 
-  pub star_open_same : (n : ℕ) (a a' : ℕ → ℕ → S) (f f' s s' : ℕ → S) → Alike (suc n) a a' → Same (suc n) f f' → Same (suc n) s s'
-      → Same (suc n) (star_open A n a f s) (star_open A n a' f' s')
-  star_open_same n a a' f f' s s' p q r i l =
-      ap (cond (eqb i n) A.best) (join_over_same A i (suc n) _ _ (λ k low high. ap₂ A.meet (p i k l high) (ap₂ A.join (q k high) (r k high))))
+    pub chain_open_same : Same n (chain_open A n a f s) (chain_open A n a' f' s')
+    chain_open_same i l =
+        ap₂ A.join (q i (omega arith)) (join_over_same A (suc i) (suc n) _ _ (λ k low high. ap₂ A.meet (p i k (omega arith) high) (r k high)))
+
+    pub star_open_same : Same n (star_open A n a f s) (star_open A n a' f' s')
+    star_open_same i l = join_over_same A i (suc n) _ _ (λ k low high. ap₂ A.meet (p i k (omega arith) high) (ap₂ A.join (q k high) (r k high)))
 
   paths_same : (bound size : ℕ) (m m' : ℕ → ℕ → S) → Alike size m m' → Alike size (paths A bound m) (paths A bound m')
   unfolding paths
@@ -67,6 +67,10 @@ module _ {S : Type 0} (A : Algebra S) where
     next_part_same EveryStrong = every_same
     next_part_same EveryWeak = every_same
 
-  pub turned_same : (mode : Mode) (g g' h h' x x' : S) → g ≡ g' → h ≡ h' → x ≡ x' → turned A mode g h x ≡ turned A mode g' h' x'
-  turned_same Join g g' h h' x x' a b c = ap₂ A.join a (ap₂ A.meet b c)
-  turned_same Meet g g' h h' x x' a b c = ap₂ A.meet a (ap₂ A.join b c)
+  -- what the next of a kind is, told which kinds it may be
+  module _ (n : ℕ) (m : ℕ → ℕ → S) (o after : ℕ → S) (mark : S) (i : ℕ) (kind : Kind) (x : S) where
+    pub some_kind : (kind ≡ SomeStrong) ⊎ (kind ≡ SomeWeak) → x ≡ some_part A n m o after mark i → x ≡ next_part A kind n m o after mark i
+    some_kind is h = let P = λ (k : Kind). x ≡ next_part A k n m o after mark i in ⊎_elim (λ e. subst P (sym e) h) (λ e. subst P (sym e) h) is
+
+    pub every_kind : (kind ≡ EveryStrong) ⊎ (kind ≡ EveryWeak) → x ≡ every_part A n m o after mark i → x ≡ next_part A kind n m o after mark i
+    every_kind is h = let P = λ (k : Kind). x ≡ next_part A k n m o after mark i in ⊎_elim (λ e. subst P (sym e) h) (λ e. subst P (sym e) h) is

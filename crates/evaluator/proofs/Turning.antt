@@ -1,46 +1,43 @@
 -- The row of an until or a release while it is filled. Assumes nothing.
-use Rattle.std.proofs.Common.{◌≡◌, ℕ, suc, ◌+◌, ◌-◌, ◌<◌, ◌≤◌, [], ◌∷◌, ◌++◌, length, get_or, vec_items, sym, refl, ap, ◌∙◌, ⊎_elim, arith}
-use Rattle.rule.specs.declared.leaf.Kind.{Kind}
+use Rattle.std.proofs.Common.{◌≡◌, ℕ, ◌+◌, ◌<◌, ◌≤◌, List, length, get_or, set, sym, refl, ap, ◌∙◌, subst, ⊎_elim, length-set, arith}
 use Rattle.scale.specs.Laws.{Algebra}
-use Rattle.evaluator.specs.declared.grid.Row.{Row}
-use Rattle.evaluator.specs.declared.mode.Mode.{Mode}
-use Rattle.evaluator.specs.Parts.{turned, next_part}
+use Rattle.evaluator.specs.declared.next.Next.{Next}
+use Rattle.evaluator.specs.Segments.{matched, opened, next_is}
 use Rattle.evaluator.specs.Tables.{entry}
-use Rattle.evaluator.proofs.Parts.{next_part_same, turned_same}
-use Rattle.std.proofs.lemmas.List.{length_push, get_or_push, get_or_append_left}
+use Rattle.evaluator.proofs.Parts.{next_part_same}
+use Rattle.std.proofs.lemmas.List.{get_or-set_same, get_or-set_other}
 use Rattle.std.proofs.lemmas.Bool.{cases_eq}
 
-module _ {S : Type 0} (A : Algebra S) (mode : Mode) (kind : Kind) (n : ℕ) (m : ℕ → ℕ → S) (o hold goal : ℕ → S) (mark : S) where
-  -- the right side of the equation
-  abbrev side : (ℕ → S) → ℕ → S
-  side f i = turned A mode (goal i) (hold i) (next_part A kind n m o f mark i)
+-- `post` says what the turn returns, of the goal's value, the hold's and the next's
+module _ {S : Type 0} (A : Algebra S) (post : S → S → S → S → Type 0) (next : Next S) (n : ℕ) (hold goal : List S) where
+  -- the positions from k on have what the turn returned
+  abbrev pub Partly : ℕ → List S → Type 0
+  Partly k row = (length row ≡ n) × ((i : ℕ) → k ≤ i → i < n → post (entry A goal i) (entry A hold i) (next_is A next n (entry A row) i) (entry A row i))
 
-  -- the last positions are filled, so many as the count says, and keep the equation
-  abbrev pub Partly : ℕ → Row S → Type 0
-  Partly count row = (row.size ≡ n) × (length (vec_items row.values) ≡ count) × ((i : ℕ) → i < n → n - suc i < count → entry A row i ≡ side (entry A row) i)
-
-  pub partly_none : (row : Row S) → row.size ≡ n → vec_items row.values ≡ [] → Partly 0 row
-  partly_none row e none = (e, ap length none, λ i l h. absurd (omega arith))
-
-  pub partly_more : (count : ℕ) (row more : Row S) (x : S) → count < n → Partly count row → more.size ≡ n
-      → vec_items more.values ≡ vec_items row.values ++ x ∷ [] → x ≡ side (entry A row) (n - suc count) → Partly (count + 1) more
-  partly_more count row more x room h sized pushed is =
-      (sized, ap length pushed ∙ length_push (vec_items row.values) x ∙ ap (λ k. k + 1) h.1, λ i l below. ⊎_elim (here i l) (before i l below) (cases_eq (n - suc i) count))
+  pub partly_more : (k before : ℕ) (row more : List S) (x : S) → k < n → before ≡ k + 1 → Partly before row → more ≡ set row k x
+      → (of_goal of_hold of_next : S) → of_goal ≡ entry A goal k → of_hold ≡ entry A hold k → of_next ≡ next_is A next n (entry A row) k
+      → post of_goal of_hold of_next x → Partly k more
+  partly_more k before row more x l b h e of_goal of_hold of_next is_goal is_hold is_next p =
+      (ap length e ∙ length-set row k x ∙ h.0, λ i low high. ⊎_elim (here i) (further i low high) (cases_eq i k))
     where
-      read : (i : ℕ) → entry A more i ≡ get_or (vec_items row.values ++ x ∷ []) (n - suc i) A.worst
-      read i = ap (λ s. get_or (vec_items more.values) (s - suc i) A.worst) sized ∙ ap (λ xs. get_or xs (n - suc i) A.worst) pushed
+      keep : (i : ℕ) → k < i → entry A more i ≡ entry A row i
+      keep i above = ap (λ xs. get_or xs i A.worst) e ∙ get_or-set_other row k i x A.worst (λ s. omega arith)
 
-      keep : (i : ℕ) → n - suc i < count → entry A more i ≡ entry A row i
-      keep i below = read i ∙ get_or_append_left (vec_items row.values) _ A.worst (n - suc i) (omega (arith, h.1))
-          ∙ ap (λ s. get_or (vec_items row.values) (s - suc i) A.worst) (sym h.0)
+      same_next : (i : ℕ) → k ≤ i → i < n → next_is A next n (entry A row) i ≡ next_is A next n (entry A more) i
+      same_next i low high = next_part_same A n (matched A next.table) (matched A next.table) (opened A next.table) (opened A next.table) (entry A row) (entry A more) next.mark i high
+          (λ j a b. refl) refl (λ j a b. sym (keep j (omega arith))) next.kind
 
-      same_side : (i : ℕ) → i < n → n - suc i ≤ count → side (entry A row) i ≡ side (entry A more) i
-      same_side i l below = turned_same A mode _ _ _ _ _ _ refl refl
-          (next_part_same A n m m o o (entry A row) (entry A more) mark i l (λ j low high. refl) refl (λ j low high. sym (keep j (omega arith))) kind)
+      this : post (entry A goal k) (entry A hold k) (next_is A next n (entry A more) k) (entry A more k)
+      this =
+          let is : x ≡ entry A more k = sym (ap (λ xs. get_or xs k A.worst) e ∙ get_or-set_same row k x A.worst (omega (arith, h.0))) in
+          subst (post (entry A goal k) (entry A hold k) (next_is A next n (entry A more) k)) is
+          (subst (λ y. post (entry A goal k) (entry A hold k) y x) (is_next ∙ same_next k (omega arith) l)
+          (subst (λ y. post (entry A goal k) y of_next x) is_hold (subst (λ y. post y of_hold of_next x) is_goal p)))
 
-      here : (i : ℕ) → i < n → n - suc i ≡ count → entry A more i ≡ side (entry A more) i
-      here i l e = let back : n - suc count ≡ i = omega arith in
-          read i ∙ get_or_push (vec_items row.values) x A.worst (n - suc i) (h.1 ∙ sym e) ∙ is ∙ ap (side (entry A row)) back ∙ same_side i l (omega arith)
+      here : (i : ℕ) → i ≡ k → post (entry A goal i) (entry A hold i) (next_is A next n (entry A more) i) (entry A more i)
+      here i s = subst (λ j. post (entry A goal j) (entry A hold j) (next_is A next n (entry A more) j) (entry A more j)) (sym s) this
 
-      before : (i : ℕ) → i < n → n - suc i < count + 1 → (n - suc i ≡ count → ⊥) → entry A more i ≡ side (entry A more) i
-      before i l below ne = let lower : n - suc i < count = omega arith in keep i lower ∙ h.2 i l lower ∙ same_side i l (omega arith)
+      further : (i : ℕ) → k ≤ i → i < n → (i ≡ k → ⊥) → post (entry A goal i) (entry A hold i) (next_is A next n (entry A more) i) (entry A more i)
+      further i low high ne =
+          subst (post (entry A goal i) (entry A hold i) (next_is A next n (entry A more) i)) (sym (keep i (omega arith)))
+          (subst (λ y. post (entry A goal i) (entry A hold i) y (entry A row i)) (same_next i low high) (h.1 i (omega arith) high))

@@ -1,88 +1,87 @@
-// Reading rows and grids, and joins and meets along them.
-ghost use Rattle.std.specs.Prelude.{◌≡◌, ℕ, suc, ◌<◌, ◌≤◌};
+// Reading grids, and joins and meets along them.
+ghost use Rattle.std.specs.Prelude.{◌≡◌, ℕ, ◌-◌, ◌<◌, ◌≤◌, length};
 ghost use Rattle.semantics.specs.Folds.{join_over, meet_over};
-ghost use Rattle.evaluator.specs.Parts.{merged, turned};
-ghost use Rattle.evaluator.specs.Tables.{entry, cell, Has, Holds};
+ghost use Rattle.evaluator.specs.Tables.{entry, cell, Gives, Merges, merged};
 
-use crate::grid::{Grid, Row};
-use crate::mode::Mode;
+use crate::grid::Grid;
 use scale::order::Scale;
 
-impl<S: Scale> Row<S> {
-    // The value at a position.
-    pub fn at(&self, position: usize) -> S
-        requires { Has self.now position }
-        ensures { result ≡ entry S.Scale.algebra self.now position }
-    {
-        self.values[self.size - 1 - position]
-    }
+// A start, merged with the values at the positions from low to below high. Two numbers and no Range, here and below,
+// since each clause names them: a Range would be taken apart in all of them.
+fn fold_over<S: Copy, F: Fn(usize) -> S, M: Fn(S, S) -> S>(
+    low: usize,
+    high: usize,
+    start: S,
+    merge: M,
+    value: F,
+) -> S
+    requires callable { M.IsAlwaysCallable merge }
+    requires inside { (k : ℕ) → low ≤ k → k < high → F.pre value k }
+    ensures { (m : S → S → S) (f : ℕ → S) → Merges (M.post merge) m → Gives (F.post value) low high f → result ≡ merged m start low (high - low) f }
+{
+    (low..high).map(value).fold(start, merge)
 }
 
 impl<S: Scale> Grid<S> {
-    // The value from one position to another.
+    // The value from one position to another. Clauses tie positions to this grid, here and below: a type for them would have to
+    // name the grid.
     pub fn at(&self, from: usize, to: usize) -> S
-        requires { Holds self.now from to }
+        requires from_in { from < self.now.size }
+        requires to_in { to < self.now.size }
         ensures { result ≡ cell S.Scale.algebra self.now from to }
     {
-        self.cells[(self.size - 1 - from) * self.size + to]
+        self.cells[from * self.size + to]
     }
 
     // By way of some position from low to below high: here to it, and in the other grid from it on.
     pub fn through(&self, other: &Grid<S>, from: usize, to: usize, low: usize, high: usize) -> S
-        requires first { (k : ℕ) → low ≤ k → k < high → Holds self.now from k }
-        requires second { (k : ℕ) → low ≤ k → k < high → Holds other.now k to }
+        requires from_in { from < self.now.size }
+        requires to_in { to < other.now.size }
+        requires first { high ≤ self.now.size }
+        requires second { high ≤ other.now.size }
         ensures { result ≡ join_over S.Scale.algebra low high (λ k. S.Scale.algebra.meet (cell S.Scale.algebra self.now from k) (cell S.Scale.algebra other.now k to)) }
     {
-        let mut sum = S::worst();
-        for k in low..high {
-            sum = sum.join(self.at(from, k).meet(other.at(k, to)));
-        }
-        sum
+        fold_over(
+            low,
+            high,
+            S::worst(),
+            S::join,
+            |k|
+                requires { (from < self.now.size) × (k < self.now.size) × (k < other.now.size) × (to < other.now.size) }
+            { self.at(from, k).meet(other.at(k, to)) },
+        )
     }
 
     // To some position from low to below high, and there the row's value.
-    pub fn some_along(&self, row: &Row<S>, from: usize, low: usize, high: usize) -> S
-        requires first { (k : ℕ) → low ≤ k → k < high → Holds self.now from k }
-        requires second { (k : ℕ) → low ≤ k → k < high → Has row.now k }
+    pub fn some_along(&self, row: &[S], from: usize, low: usize, high: usize) -> S
+        requires from_in { from < self.now.size }
+        requires first { high ≤ self.now.size }
+        requires second { high ≤ length row.now }
         ensures { result ≡ join_over S.Scale.algebra low high (λ k. S.Scale.algebra.meet (cell S.Scale.algebra self.now from k) (entry S.Scale.algebra row.now k)) }
     {
-        let mut sum = S::worst();
-        for k in low..high {
-            sum = sum.join(self.at(from, k).meet(row.at(k)));
-        }
-        sum
+        fold_over(
+            low,
+            high,
+            S::worst(),
+            S::join,
+            |k| self.at(from, k).meet(row[k]),
+        )
     }
 
-    // To every position from low to below high: not to it, or there the row's value.
-    pub fn every_along(&self, row: &Row<S>, from: usize, low: usize, high: usize) -> S
-        requires first { (k : ℕ) → low ≤ k → k < high → Holds self.now from k }
-        requires second { (k : ℕ) → low ≤ k → k < high → Has row.now k }
+    // To every position from low to below high: not to it, or there the row's value. Beside some_along, since start,
+    // merge and value differ: one function of both would be given all three, and that is fold_over.
+    pub fn every_along(&self, row: &[S], from: usize, low: usize, high: usize) -> S
+        requires from_in { from < self.now.size }
+        requires first { high ≤ self.now.size }
+        requires second { high ≤ length row.now }
         ensures { result ≡ meet_over S.Scale.algebra low high (λ k. S.Scale.algebra.join (S.Scale.algebra.opposite (cell S.Scale.algebra self.now from k)) (entry S.Scale.algebra row.now k)) }
     {
-        let mut product = S::best();
-        for k in low..high {
-            product = product.meet(self.at(from, k).opposite().join(row.at(k)));
-        }
-        product
-    }
-}
-
-// The join or the meet of two values.
-pub fn merge<S: Scale>(mode: Mode, x: S, y: S) -> S
-    ensures { result ≡ merged S.Scale.algebra mode x y }
-{
-    match mode {
-        Mode::Join => x.join(y),
-        Mode::Meet => x.meet(y),
-    }
-}
-
-// The goal, or the hold and what is next; with meet for join, the goal and (the hold or what is next).
-pub fn turn<S: Scale>(mode: Mode, goal: S, hold: S, next: S) -> S
-    ensures { result ≡ turned S.Scale.algebra mode goal hold next }
-{
-    match mode {
-        Mode::Join => goal.join(hold.meet(next)),
-        Mode::Meet => goal.meet(hold.join(next)),
+        fold_over(
+            low,
+            high,
+            S::best(),
+            S::meet,
+            |k| self.at(from, k).opposite().join(row[k]),
+        )
     }
 }

@@ -1,15 +1,11 @@
-// Rows and grids of values over the positions of a log.
+// A grid of values over the positions of a log.
+ghost use Rattle.std.specs.Prelude.{◌≡◌, ◌*◌, vec_len};
 
-// Values at the positions below the size, the last position first.
-#[derive(Drop)]
-pub struct Row<S> {
-    pub size: usize,
-    pub values: Vec<S>,
-}
-
-// Values at the pairs of positions below the size, a row for each first position, the last one first.
+// Values at the pairs of positions below the size: a row for each first position, one after another. The size
+// stands beside them, since a square's side is not its length.
 #[derive(Drop)]
 pub struct Grid<S> {
     pub size: usize,
     pub cells: Vec<S>,
+    ghost square: { vec_len cells ≡ size * size },
 }

@@ -1,10 +1,12 @@
 // The position rules: verdict, floor and ceiling of a rule on a log.
 #![tactic(auto)]
 
+mod fill;
 mod fold;
 mod grid;
+mod log;
 mod mark;
-mod mode;
+mod next;
 pub mod report;
 mod segment;
 mod table;

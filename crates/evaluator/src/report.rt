@@ -1,6 +1,7 @@
 // The report on a log: verdict, floor and ceiling of a rule.
 ghost use Rattle.std.specs.Prelude.{◌≡◌, ◌<◌, ◌≤◌, false, map, length, IfOk};
 ghost use Rattle.rule.specs.Stands.{rule_of};
+ghost use Rattle.evaluator.specs.declared.report.Unjudged.TheVariants.{NoMemory};
 ghost use Rattle.evaluator.specs.Judged.{Judged};
 ghost use Rattle.evaluator.specs.Markings.{marks_of};
 ghost use Rattle.semantics.specs.Continuations.{BitsSettle, Settles};
@@ -10,7 +11,8 @@ ghost use Rattle.semantics.specs.Later.{Later, Ordered};
 ghost use Rattle.semantics.specs.Reports.{worth_on, report};
 ghost use Rattle.semantics.specs.Sanity.{BitsTwoWay, Sane};
 
-use crate::mark::Marking;
+use crate::log::Log;
+use crate::mark::{Marking, Value};
 use crate::worth::rule_row;
 use letter::kind::Letter;
 use rule::tree::Rule;
@@ -29,34 +31,37 @@ pub enum Unjudged {
     NoMemory,
 }
 
-// What a rule is worth at the first letter, under the marks.
-fn worth_at_first<S: Scale, L: Letter<Scale = S>>(
-    heap: Global,
-    marking: Marking,
-    rule: &Rule,
-    letters: &[L],
-) -> Result<S, AllocError>
-    requires some { 0 < length letters.now }
-    requires few { length letters.now ≤ 64 }
-    ensures { IfOk result (λ v. v ≡ worth_on S.Scale.algebra (marks_of S.Scale.algebra marking) (rule_of rule.now) (map L.Letter.heard letters.now) 0) }
-{
-    let row = rule_row(heap, marking, false, rule, letters)?;
-    Ok(row.at(0))
+// By hand, since its clause names the error that `?` makes.
+impl From<AllocError> for Unjudged {
+    ghost from_gives = { λ _ r. r ≡ NoMemory };
+
+    fn from(_error: AllocError) -> Unjudged {
+        Unjudged::NoMemory
+    }
 }
 
-// Verdict, floor and ceiling.
-fn three_values<S: Scale, L: Letter<Scale = S>>(
-    heap: Global,
+// What a rule is worth at the first letter, under the marks of a value.
+fn worth_at_first<S: Scale, L: Letter<Scale = S>>(
+    log: &Log<L>,
+    value: Value,
     rule: &Rule,
-    letters: &[L],
-) -> Result<(S, S, S), AllocError>
-    requires some { 0 < length letters.now }
-    requires few { length letters.now ≤ 64 }
-    ensures { IfOk result (λ t. t ≡ report S.Scale.algebra (rule_of rule.now) (map L.Letter.heard letters.now)) }
+) -> Result<S, AllocError>
+    ensures { IfOk result (λ v. v ≡ worth_on S.Scale.algebra (marks_of S.Scale.algebra value) (rule_of rule.now) (map L.Letter.heard log.now.letters.now) 0) }
 {
-    let verdict = worth_at_first(heap, Marking::Verdict, rule, letters)?;
-    let floor = worth_at_first(heap, Marking::Floor, rule, letters)?;
-    let ceiling = worth_at_first(heap, Marking::Ceiling, rule, letters)?;
+    let row = rule_row(log, Marking { value, odd: false }, rule)?;
+    Ok(row[0])
+}
+
+// Verdict, floor and ceiling: a triple here and in all calls, by a rule of the project.
+fn three_values<S: Scale, L: Letter<Scale = S>>(
+    log: &Log<L>,
+    rule: &Rule,
+) -> Result<(S, S, S), AllocError>
+    ensures { IfOk result (λ t. t ≡ report S.Scale.algebra (rule_of rule.now) (map L.Letter.heard log.now.letters.now)) }
+{
+    let verdict = worth_at_first(log, Value::Verdict, rule)?;
+    let floor = worth_at_first(log, Value::Floor, rule)?;
+    let ceiling = worth_at_first(log, Value::Ceiling, rule)?;
     Ok((verdict, floor, ceiling))
 }
 
@@ -97,8 +102,6 @@ fn judged<S: Scale, L: Letter<Scale = S>>(
     if letters.is_empty() {
         return Ok(None);
     }
-    match three_values(heap, rule, letters) {
-        Ok(values) => Ok(Some(values)),
-        Err(_) => Err(Unjudged::NoMemory),
-    }
+    let log = Log { heap, letters };
+    Ok(Some(three_values(&log, rule)?))
 }

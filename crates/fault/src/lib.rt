@@ -1,4 +1,6 @@
-// Refusals: what was refused, at which place and by which layer.
+// Refusals: what was refused, at which place and by which layer. Each layer has a fault of its own, which holds the faults
+// below it whole. Number, place and layer are methods of each: the matches differ in what lies below, so that a trait or a
+// generic fault would only repeat them.
 #![tactic(auto)]
 
 ghost use Rattle.std.specs.Prelude.{◌≡◌};
@@ -19,7 +21,8 @@ pub enum Layer {
     Card,
 }
 
-// Why a text was refused, with the refusal's number.
+// Why a text was refused, with the refusal's number, which the project's table of refusals fixes. It is the discriminant (`as u8`), as
+// in the causes below.
 #[derive(Clone, Copy, PartialEq, Eq, Debug)]
 pub enum TextCause {
     // a rule text of 0 or over 96 bytes
@@ -73,7 +76,8 @@ impl TextFault {
     }
 }
 
-// Whatever finds no memory is a text fault of want of memory, so that `?` carries it.
+// Whatever finds no memory is a text fault of want of memory, so that `?` carries it. This and the conversions below are
+// written by hand, since a derive's promise nothing, and clauses name the fault that a `?` makes.
 impl From<AllocError> for TextFault {
     ghost from_gives = { λ _ r. r ≡ NoMemory };
 
@@ -163,7 +167,7 @@ pub enum WorkCause {
     NoLetter = 12,
 }
 
-// What a call on a watch or a summary refuses.
+// What a call on a watch or a summary refuses: one variant, under the name that it has in every fault.
 #[derive(Clone, Copy, PartialEq, Eq, Debug)]
 pub enum WorkFault {
     Refused(WorkCause, usize),

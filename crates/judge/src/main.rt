@@ -11,151 +11,58 @@ use lines::line::Line;
 use lines::log::Log;
 use rule::{Rule, read_rule};
 use std::alloc::Global;
-use std::io::Read;
+use std::io::{BufReader, Bytes, Read, Stdin};
+use std::iter::Fuse;
 use std::{env, io};
 
-// What a run works with: the memory, and whether the cells are asked for.
-#[derive(Clone, Copy)]
-struct Run {
-    heap: Global,
-    cells: bool,
-}
+// The bytes of the input; once it has ended it is not read again.
+type Input = Fuse<Bytes<BufReader<Stdin>>>;
 
-// How far the reading has come.
-#[derive(Drop)]
-enum Stage {
-    // The rule's line is still to end.
-    Begun,
-    // The rule was read, and letters follow.
-    Judging(Rule),
-    // Nothing more is read.
-    Ended,
-}
-
-// The rule's line has ended.
-fn take_rule(rt: &HostRuntime, run: Run, line: &Line) -> io::Result<Stage> {
-    match read_rule(run.heap, line.bytes()) {
-        Ok(rule) => {
-            if run.cells {
-                show_cells(rt, run.heap, line.bytes(), &rule)?;
-            }
-            Ok(Stage::Judging(rule))
+// The next line of the input; none at its end, where an empty tail is no line. Not as in `logwatch`, which looks into its buffer
+// so that it can answer before it waits.
+fn next_line(input: &mut Input) -> io::Result<Option<Line>> {
+    let mut line = Line::empty();
+    for byte in input {
+        match byte? {
+            b'\n' => return Ok(Some(line)),
+            byte => line.push(byte),
         }
-        Err(fault) => {
-            let text = refusal(run.heap, fault)?;
-            print!(rt; "{text}")?;
-            Ok(Stage::Ended)
-        }
+    }
+    if line.bytes().is_empty() {
+        Ok(None)
+    } else {
+        Ok(Some(line))
     }
 }
 
-// A letter's line has ended.
-fn take_letter(
-    rt: &HostRuntime,
-    run: Run,
-    rule: Rule,
-    log: &mut Log,
-    line: &Line,
-) -> io::Result<Stage> {
-    match answer_line(run.heap, &rule, log, line.bytes())? {
-        Some(text) => {
-            print!(rt; "{text}")?;
-            Ok(Stage::Judging(rule))
-        }
-        None => {
-            println!(rt; "the log is longer than 64 letters")?;
-            Ok(Stage::Ended)
-        }
+// Answers the letters' lines, until the input ends or the log is full.
+fn judge_letters(rt: &impl Print, heap: Global, rule: &Rule, input: &mut Input) -> io::Result<()> {
+    let mut log = Log::empty();
+    // a count, since a loop must be seen to end: the input's end comes before it
+    for _ in 0..u64::MAX {
+        let Some(line) = next_line(input)? else {
+            break;
+        };
+        let Some(text) = answer_line(heap, rule, &mut log, line.bytes())? else {
+            return println!(rt; "the log is longer than 64 letters");
+        };
+        rt.print(text)?;
     }
-}
-
-// A line has ended.
-fn take_line(
-    rt: &HostRuntime,
-    run: Run,
-    stage: Stage,
-    log: &mut Log,
-    line: &Line,
-) -> io::Result<Stage> {
-    match stage {
-        Stage::Begun => take_rule(rt, run, line),
-        Stage::Judging(rule) => take_letter(rt, run, rule, log, line),
-        Stage::Ended => Ok(Stage::Ended),
-    }
-}
-
-// Some bytes more of the input.
-fn take_bytes(
-    rt: &HostRuntime,
-    run: Run,
-    stage: Stage,
-    log: &mut Log,
-    line: &mut Line,
-    bytes: &[u8],
-) -> io::Result<Stage> {
-    let mut stage = stage;
-    for byte in bytes {
-        if *byte == b'\n' {
-            stage = take_line(rt, run, stage, log, line)?;
-            *line = Line::empty();
-        } else {
-            line.push(*byte);
-        }
-    }
-    Ok(stage)
-}
-
-// The input has ended: the rule's line ends here if it has not yet, and so does a line that has bytes.
-fn take_end(
-    rt: &HostRuntime,
-    run: Run,
-    stage: Stage,
-    log: &mut Log,
-    line: &Line,
-) -> io::Result<Stage> {
-    match stage {
-        Stage::Judging(rule) => {
-            if line.bytes().is_empty() {
-                Ok(Stage::Judging(rule))
-            } else {
-                take_letter(rt, run, rule, log, line)
-            }
-        }
-        other => take_line(rt, run, other, log, line),
-    }
-}
-
-// Whether an argument asks for the cells.
-fn wants_cells(rt: &HostRuntime) -> io::Result<bool> {
-    let mut wanted = false;
-    for word in env::args(rt)? {
-        if word.as_str() == "cells" {
-            wanted = true;
-        }
-    }
-    Ok(wanted)
+    Ok(())
 }
 
 fn main(rt: HostRuntime) -> io::Result<()> {
-    let run = Run {
-        heap: rt.alloc(),
-        cells: wants_cells(&rt)?,
-    };
-    let mut input = rt.stdin();
-    let mut buffer = [0u8; 65536];
-    let mut stage = Stage::Begun;
-    let mut log = Log::empty();
-    let mut line = Line::empty();
-    for _ in 0..u64::MAX {
-        let count = input.read(&mut buffer)?;
-        if count == 0 {
-            break;
+    let heap = rt.alloc();
+    let cells = env::args(&rt)?.any(|word| word.as_str() == "cells");
+    let mut input = BufReader::new(heap, rt.stdin())?.bytes().fuse();
+    let line = next_line(&mut input)?.unwrap_or(Line::empty());
+    match read_rule(heap, line.bytes()) {
+        Ok(rule) => {
+            if cells {
+                show_cells(&rt, heap, line.bytes(), &rule)?;
+            }
+            judge_letters(&rt, heap, &rule, &mut input)
         }
-        stage = take_bytes(&rt, run, stage, &mut log, &mut line, &buffer[0..count])?;
-        if let Stage::Ended = stage {
-            return Ok(());
-        }
+        Err(fault) => rt.print(refusal(heap, fault)?),
     }
-    let _ = take_end(&rt, run, stage, &mut log, &line)?;
-    Ok(())
 }

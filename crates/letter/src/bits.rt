@@ -5,7 +5,7 @@ use crate::kind::Letter;
 use scale::verdict::Verdict;
 
 // A bit letter: bit c of the word, bit 0 the least, says whether channel c is best or worst. It is always fit.
-#[derive(Clone, Copy, PartialEq, Eq, Debug)]
+#[derive(Clone, Copy, PartialEq, Eq, Default, Debug)]
 pub struct Bits {
     pub word: u16,
 }

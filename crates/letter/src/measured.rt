@@ -7,7 +7,8 @@ use scale::margin::Margin;
 use scale::order::Scale;
 
 // A measured letter: a reading and a limit for each channel. A channel is unfit when one of them is out of range.
-#[derive(Clone, Copy)]
+// Two arrays, by this project's rule that a letter holds its sixteen readings and its sixteen limits by value.
+#[derive(Clone, Copy, PartialEq, Eq, Debug)]
 pub struct Measured {
     pub readings: [i16; 16],
     pub limits: [i16; 16],
@@ -17,7 +18,7 @@ pub struct Measured {
 fn out_of_range(number: i16) -> bool
     ensures { result ≡ outside number }
 {
-    number < -8191 || number > 8191
+    !(-8191..=8191).contains(&number)
 }
 
 // Twice the reading above the limit, and one: odd, so that a reading at its limit is kept.
@@ -37,7 +38,7 @@ impl Measured {
         requires { channel < 16 }
         ensures { result ≡ channel_unfit self.now channel }
     {
-        out_of_range(self.readings[channel as usize]) | out_of_range(self.limits[channel as usize])
+        out_of_range(self.readings[channel as usize]) || out_of_range(self.limits[channel as usize])
     }
 }
 
@@ -47,12 +48,7 @@ impl Letter for Measured {
     ghost heard = { measured_heard };
 
     fn unfit(&self) -> Option<u8> {
-        for channel in 0..16u8 {
-            if self.is_unfit(channel) {
-                return Some(channel);
-            }
-        }
-        None
+        (0..16).find(|channel| self.is_unfit(*channel))
     }
 
     fn value(&self, channel: u8) -> Margin {

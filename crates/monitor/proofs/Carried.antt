@@ -4,9 +4,13 @@ use Rattle.fault.specs.declared.WorkFault.{WorkFault}
 use Rattle.letter.specs.Heard.{Heard}
 use Rattle.rule.specs.Tree.{Rule}
 use Rattle.runs.specs.Calls.{Answer, after, letter_answer, letter_state, apply_answer, apply_state, join_answer, join_state, report_answer}
+use Rattle.runs.specs.Promises.{WatchLaw, SummaryLaw, BitLaw}
 use Rattle.runs.specs.Runs.{Report, Run, Built, noted}
 use Rattle.runs.specs.States.{State, watch, summary, table_size, opened}
-use Rattle.scale.specs.Laws.{Algebra}
+use Rattle.runs.proofs.Engine.{engine}
+use Rattle.runs.proofs.Laws.{watch_law, summary_law, bit_law}
+use Rattle.scale.specs.Laws.{Algebra, Lawful}
+use Rattle.scale.proofs.VerdictLaws.{verdicts_lawful}
 
 module _ {S : Type 0} (A : Algebra S) where
   pub run_opened : (w : State S) (r : Rule) (buffer : List S) → w ≡ opened A watch r buffer → table_size watch r ≤ length buffer → Run A w [] []
@@ -46,3 +50,13 @@ module _ {S : Type 0} (A : Algebra S) where
   built_join before after_it answer r first second answered state left right volume built one two =
       subst₂ (λ s a. Built A s (after a (left ++ right) volume)) (sym state) (sym answered)
       (Built.join r first second left right built (λ e. one (answered ∙ e)) (λ e. two (answered ∙ e)))
+
+-- the laws of whole runs, on a lawful scale
+pub watch_lawful : {S : Type 0} {A : Algebra S} → Lawful A → (w : State S) → WatchLaw A w
+watch_lawful L w = watch_law L (engine L) w
+
+pub summary_lawful : {S : Type 0} {A : Algebra S} → Lawful A → (s : State S) → SummaryLaw A s
+summary_lawful L s = summary_law L (engine L) s
+
+pub bits_lawful : BitLaw
+bits_lawful = bit_law (engine verdicts_lawful)

@@ -1,29 +1,38 @@
--- What accepted calls answer and leave: the rows that were written are the tables that the calls speak of. Assumes nothing.
-use Rattle.std.proofs.Common.{◌≡◌, ℕ, suc, ◌+◌, ◌*◌, ◌^◌, ◌≤◌, false, eqb, List, length, Ok, sym, refl, ap, ◌∙◌, subst, arith}
+-- What accepted calls may rely on, and what they answer and leave: the rows that were written are the tables that the calls speak
+-- of. Assumes nothing.
+use Rattle.std.proofs.Common.{◌≡◌, ℕ, suc, ◌+◌, ◌*◌, ◌^◌, ◌≤◌, false, eqb, List, length, Ok, sym, refl, ap, ◌∙◌, subst₂, mul-le-mul_right, arith}
 use Rattle.cells.specs.Rows.{followed}
 use Rattle.cells.specs.Step.{inner_cells}
 use Rattle.letter.specs.Heard.{Heard}
 use Rattle.monitor.specs.declared.head.Head.{Head}
-use Rattle.monitor.specs.Checks.{letter_check, apply_check, report_check}
 use Rattle.monitor.specs.Outside.{own, state}
 use Rattle.monitor.specs.Work.{letter_table, rows_then}
+use Rattle.rule.specs.Spelling.{spelled}
 use Rattle.rule.specs.Tree.{Rule}
-use Rattle.runs.specs.Calls.{Answer, after, cleared, differs, letter_answer, letter_state, letter_spare, apply_answer, apply_state, apply_spare, told, report_answer}
-use Rattle.runs.specs.States.{Form, watch, cells_of_rule, rows_kept, short, table_in, tabled}
-use Rattle.runs.proofs.Checks.{past, onward, after_accepted}
+use Rattle.rule.proofs.Sentences.{one_reading}
+use Rattle.runs.specs.Calls.{Answer, after, cleared, differs, letter_answer, letter_state, letter_spare, apply_answer, apply_state, apply_spare, join_answer, told, report_answer}
+use Rattle.runs.specs.States.{State, Form, watch, summary, cells_of_rule, rows_kept, table_size, short, table_in, tabled}
+use Rattle.runs.proofs.Checks.{LetterFacts, letter_facts, ApplyFacts, apply_facts, JoinFacts, join_facts, onward, after_accepted}
 use Rattle.scale.specs.Laws.{Algebra}
 use Rattle.semantics.specs.Inward.{inward}
+use Rattle.std.proofs.lemmas.Slice.Eq.{bytes_eq-Decides}
+use Rattle.std.proofs.lemmas.Bool.{ltb-false, not-false}
 
--- a rule has a cell, so a summary has a row
-pub some_row : (h : Head) (n room : ℕ) → h.cells * 2 ^ n ≤ room → 2 ^ n ≤ room
-some_row h n room fits =
-    let inner : ℕ = inner_cells (inward false (own h)) in
-    let more : suc inner * 2 ^ n ≤ room = subst (λ k. k * 2 ^ n ≤ room) h.counted fits in
-    omega arith
+-- a watch and a summary keep a row at least, since a rule has a cell
+some_row : (form : Form) (r : Rule) → 1 ≤ rows_kept form r
+some_row watch r = omega arith
+some_row summary r = let inner : ℕ = inner_cells (inward false r) in let e : cells_of_rule r ≡ suc inner = refl in omega arith
 
 -- after an accepted call there is what is new
-after_new : {X : Type 0} (answer : Answer) (new old : X) → Ok tt ≡ answer → new ≡ after answer new old
-after_new answer new old e = after_accepted (λ x. new ≡ x) answer new old (sym e) refl
+after_new : {X : Type 0} (answer : Answer) (new old : X) → answer ≡ Ok tt → new ≡ after answer new old
+after_new answer new old e = after_accepted (λ x. new ≡ x) answer new old e refl
+
+module _ {S : Type 0} where
+  -- so many rows of the rule that a call brings fit, where those of the state's own do
+  room : (form : Form) (s : State S) (r : Rule) (n count : ℕ) → n ≡ cells_of_rule r → s.rule ≡ r → count ≡ rows_kept form s.rule
+      → table_size form s.rule ≤ length s.buffer → count * 2 ^ n ≤ length s.buffer
+  room form s r n count cells same kept fits =
+      subst₂ (λ k i. k * 2 ^ i ≤ length s.buffer) (sym kept) (ap cells_of_rule same ∙ sym cells) fits
 
 module _ {S : Type 0} (A : Algebra S) where
   -- rows written for as many cells and rows as a rule has are its table
@@ -32,44 +41,73 @@ module _ {S : Type 0} (A : Algebra S) where
   written form r n count buffer t u cells kept e =
       ap (λ v. rows_then A n count buffer v) e ∙ ap (λ k. rows_then A n k buffer u) kept ∙ ap (λ k. rows_then A k (rows_kept form r) buffer u) cells
 
-  -- a letter: the state's head, count and buffer, the rule, the letter and the spare of the call
-  module _ (form : Form) (h : Head) (m : ℕ) (buffer : List S) (r : Rule) (l : Heard S) (spare : List S) (count : ℕ) (kept : count ≡ rows_kept form (own h))
-      (checked : Ok tt ≡ letter_check r h count (length buffer) m l.unfit (length spare)) where
-    pub letter_answered : Ok tt ≡ letter_answer A form r (state h m buffer) l spare
-    letter_answered = checked ∙ ap (λ k. letter_check r h k (length buffer) m l.unfit (length spare)) kept
+  -- an accepted letter: the state's head, count and buffer, the rule, the letter and the spare of the call, and the rule's cells
+  module _ (form : Form) (h : Head) (m : ℕ) (buffer : List S) (r : Rule) (l : Heard S) (spare : List S) (n count : ℕ) (cells : n ≡ cells_of_rule r)
+      (kept : count ≡ rows_kept form (own h)) (accepted : letter_answer A form r (state h m buffer) l spare ≡ Ok tt) where
+    facts : LetterFacts A form r (state h m buffer) l spare
+    facts = letter_facts A form r (state h m buffer) l spare accepted
 
-    pub letter_left : (n : ℕ) (table : List S) → own h ≡ r → n ≡ cells_of_rule r → table ≡ rows_then A n count buffer (letter_table A r l)
+    pub letter_room : count * 2 ^ n ≤ length buffer
+    letter_room = room form (state h m buffer) r n count cells facts.rules kept facts.room
+
+    pub letter_left : (table : List S) → table ≡ rows_then A n count buffer (letter_table A r l)
         → state h (m + 1) table ≡ letter_state A form r (state h m buffer) l spare
-    letter_left n table e cells wrote =
+    letter_left table wrote =
         ap (state h (m + 1))
-        (wrote ∙ written form (own h) n count buffer _ _ (cells ∙ ap cells_of_rule (sym e)) kept (ap (λ q. letter_table A q l) (sym e)))
-        ∙ after_new (letter_answer A form r (state h m buffer) l spare) _ _ letter_answered
+        (wrote ∙ written form (own h) n count buffer _ _ (cells ∙ ap cells_of_rule (sym facts.rules)) kept (ap (λ q. letter_table A q l) (sym facts.rules)))
+        ∙ after_new (letter_answer A form r (state h m buffer) l spare) _ _ accepted
 
     pub letter_spared : (rest : List S) → rest ≡ cleared A spare → rest ≡ letter_spare A form r (state h m buffer) l spare
-    letter_spared rest e = e ∙ after_new (letter_answer A form r (state h m buffer) l spare) _ _ letter_answered
+    letter_spared rest e = e ∙ after_new (letter_answer A form r (state h m buffer) l spare) _ _ accepted
 
-  -- an apply: the watch's head, count and buffer, the summary's, the rule and the spare of the call
-  module _ (w : Head) (m : ℕ) (buffer : List S) (s : Head) (more : ℕ) (volume : List S) (r : Rule) (spare : List S)
-      (checked : Ok tt ≡ apply_check r w (length buffer) s (length volume) (m + more) (length spare)) where
-    pub apply_left : (n : ℕ) (table : List S) → own w ≡ r → own s ≡ r → n ≡ cells_of_rule r → table ≡ rows_then A n 1 buffer (table_in A n volume)
+  -- an accepted apply: the watch's head, count and buffer, the summary's, the rule and the spare of the call, and the rule's cells
+  module _ (w : Head) (m : ℕ) (buffer : List S) (s : Head) (more : ℕ) (volume : List S) (r : Rule) (spare : List S) (n : ℕ) (cells : n ≡ cells_of_rule r)
+      (accepted : apply_answer A r (state w m buffer) (state s more volume) spare ≡ Ok tt) where
+    both : ApplyFacts A r (state w m buffer) (state s more volume) spare
+    both = apply_facts A r (state w m buffer) (state s more volume) spare accepted
+
+    pub apply_room : 1 * 2 ^ n ≤ length buffer
+    apply_room = room watch (state w m buffer) r n 1 cells both.rules refl both.room
+
+    pub apply_summary_room : n * 2 ^ n ≤ length volume
+    apply_summary_room = room summary (state s more volume) r n n cells both.summary_rules (cells ∙ ap cells_of_rule (sym both.summary_rules)) both.summary_room
+
+    pub apply_left : (table : List S) → table ≡ rows_then A n 1 buffer (table_in A n volume)
         → state w (m + more) table ≡ apply_state A r (state w m buffer) (state s more volume) spare
-    apply_left n table e f cells wrote =
+    apply_left table wrote =
         ap (state w (m + more))
-        (wrote ∙ written watch (own w) n 1 buffer _ _ (cells ∙ ap cells_of_rule (sym e)) refl
-        (ap (λ k. table_in A k volume) (cells ∙ ap cells_of_rule (sym f))))
-        ∙ after_new (apply_answer A r (state w m buffer) (state s more volume) spare) _ _ checked
+        (wrote ∙ written watch (own w) n 1 buffer _ _ (cells ∙ ap cells_of_rule (sym both.rules)) refl
+        (ap (λ k. table_in A k volume) (cells ∙ ap cells_of_rule (sym both.summary_rules))))
+        ∙ after_new (apply_answer A r (state w m buffer) (state s more volume) spare) _ _ accepted
 
     pub apply_spared : (rest : List S) → rest ≡ cleared A spare → rest ≡ apply_spare A r (state w m buffer) (state s more volume) spare
-    apply_spared rest e = e ∙ after_new (apply_answer A r (state w m buffer) (state s more volume) spare) _ _ checked
+    apply_spared rest e = e ∙ after_new (apply_answer A r (state w m buffer) (state s more volume) spare) _ _ accepted
 
-  -- a report: what row 0 tells, of a head's count and buffer
-  pub report_told : (form : Form) (h : Head) (m : ℕ) (buffer : List S) (r : Rule) (count : ℕ) (values : S × S × S) → count ≡ rows_kept form (own h)
-      → own h ≡ r → Ok tt ≡ report_check r h count (length buffer) m → values ≡ told A (record { rule = r; count = 0; buffer = buffer })
-      → Ok values ≡ report_answer A form r (state h m buffer)
-  report_told form h m buffer r count values kept e checked tells =
-      let s = state h m buffer in
-      let fits = past (short form s) _ _ tt (sym (checked ∙ ap (λ k. report_check r h k (length buffer) m) kept)) in
-      let texts = past (differs r s) _ _ tt fits.1 in
-      let some = past (eqb m 0) _ _ tt texts.1 in
-      ap Ok (tells ∙ ap (λ q. told A (record { rule = q; count = m; buffer = buffer })) (sym e))
-      ∙ sym (onward (short form s) _ _ fits.0 ∙ onward (differs r s) _ _ texts.0 ∙ onward (eqb m 0) _ _ some.0)
+  -- what an accepted join may rely on
+  pub join_room : (r : Rule) (n : ℕ) (first second third : State S) → n ≡ cells_of_rule r → join_answer A r first second third ≡ Ok tt
+      → (n * 2 ^ n ≤ length first.buffer) × (n * 2 ^ n ≤ length second.buffer) × (n * 2 ^ n ≤ length third.buffer)
+  join_room r n first second third cells accepted =
+      let facts : JoinFacts A r first second third = join_facts A r first second third accepted in (
+        room summary first r n n cells facts.first_rules (cells ∙ ap cells_of_rule (sym facts.first_rules)) facts.first_room,
+        room summary second r n n cells facts.second_rules (cells ∙ ap cells_of_rule (sym facts.second_rules)) facts.second_room,
+        room summary third r n n cells facts.third_rules (cells ∙ ap cells_of_rule (sym facts.third_rules)) facts.third_room,
+      )
+
+  -- a report that no check refuses: the state and the rule of the call
+  module _ (form : Form) (s : State S) (r : Rule) (fits : false ≡ short form s) (texts : false ≡ differs r s) where
+    rules_same : s.rule ≡ r
+    rules_same = sym (one_reading r s.rule ((bytes_eq-Decides (spelled r) (spelled s.rule)).0 (not-false _ (sym texts))))
+
+    pub report_room : (n : ℕ) → n ≡ cells_of_rule r → 2 ^ n ≤ length s.buffer
+    report_room n cells =
+        let rows : rows_kept form s.rule * 2 ^ n ≤ length s.buffer =
+        room form s r n (rows_kept form s.rule) cells rules_same refl (ltb-false (length s.buffer) (table_size form s.rule) (sym fits)) in
+        let some : 1 ≤ rows_kept form s.rule = some_row form s.rule in
+        let more : 1 * 2 ^ n ≤ rows_kept form s.rule * 2 ^ n = mul-le-mul_right (2 ^ n) some in
+        omega arith
+
+    pub report_told : (values : S × S × S) → eqb s.count 0 ≡ false → values ≡ told A (record { rule = r; count = 0; buffer = s.buffer })
+        → Ok values ≡ report_answer A form r s
+    report_told values some tells =
+        ap Ok (tells ∙ ap (λ q. told A (record { rule = q; count = 0; buffer = s.buffer })) (sym rules_same))
+        ∙ sym (onward (short form s) _ _ (sym fits) ∙ onward (differs r s) _ _ (sym texts) ∙ onward (eqb s.count 0) _ _ some)

@@ -1,5 +1,4 @@
 pub mod Accepted
-pub mod Alike
 pub mod Carried
 pub mod Columns
 pub mod Fronts

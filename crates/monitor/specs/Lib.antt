@@ -1,4 +1,3 @@
-pub mod Checks
 pub mod Heads
 pub mod Outside
 pub mod Work

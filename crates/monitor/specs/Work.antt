@@ -14,10 +14,6 @@ module _ {S : Type 0} (A : Algebra S) where
   abbrev pub letter_table : Rule → Heard S → ℕ → ℕ → S
   letter_table r l = table_of A (inward false r) (l ∷ [])
 
-  -- the values of the rows of a buffer's table at a corner
-  abbrev pub column_in : ℕ → List S → ℕ → List S
-  column_in n buffer corner = listing n (λ j. table_in A n buffer j corner)
-
   -- a row of n cells after which a table comes
   abbrev pub row_then : ℕ → List S → (ℕ → ℕ → S) → List S
   row_then n row t = listing (2 ^ n) (λ corner. at A n (listed A row) (λ j. t j corner))

@@ -7,13 +7,33 @@ ghost use Rattle.runs.specs.Calls.{after, join_answer, join_state};
 ghost use Rattle.runs.specs.Promises.{SummaryLaw};
 ghost use Rattle.runs.specs.Runs.{Built};
 
-use crate::adding::add_rows;
-use crate::checks::check_join;
-use crate::count::Count;
+use crate::holding::refused;
 use crate::summary::Summary;
+use crate::volume::Volume;
 use cells::laid_rule::LaidRule;
-use fault::WorkFault;
+use fault::{WorkCause, WorkFault};
 use scale::order::Scale;
+
+// The checks of a join, in order.
+fn check_join<'a, 'b, 'c, S: Scale>(
+    rule: &LaidRule,
+    first: &Summary<'a, S>,
+    second: &Summary<'b, S>,
+    third: &Summary<'c, S>,
+) -> Result<(), WorkFault>
+    ensures { result ≡ join_answer S.Scale.algebra (rule_of rule.now.laid.rule) (summary_state first.now) (summary_state second.now) (summary_state third.now) }
+{
+    if first.is_short() || second.is_short() || third.is_short() {
+        return Err(refused(WorkCause::BufferShort));
+    }
+    if first.differs(rule) || second.differs(rule) || third.differs(rule) {
+        return Err(refused(WorkCause::Differs));
+    }
+    if first.count.overflows(second.count.number) {
+        return Err(refused(WorkCause::CountAbove));
+    }
+    Ok(())
+}
 
 // The answer of join.
 fn joined<'a, 'b, 'c, S: Scale>(
@@ -26,23 +46,13 @@ fn joined<'a, 'b, 'c, S: Scale>(
     ensures state { summary_state third.new ≡ join_state S.Scale.algebra (rule_of rule.now.laid.rule) (summary_state first.now) (summary_state second.now) (summary_state third.old) }
     ensures buffer { third.new.table.ghost_name ≡ third.old.table.ghost_name }
 {
-    let left: &[S] = first.table;
-    let right: &[S] = second.table;
-    let room = third.table.len();
-    let counts = (first.count.number, second.count.number);
-    if let Err(fault) = check_join(
-        rule,
-        (&first.head, left.len()),
-        (&second.head, right.len()),
-        (&third.head, room),
-        counts,
-    ) {
-        return Err(fault);
-    }
-    add_rows(rule.laid.count, left, right, third.table);
-    third.count = Count {
-        number: counts.0 + counts.1,
+    check_join(rule, first, second, third)?;
+    let volume = Volume {
+        laid: &rule.laid,
+        table: second.table,
     };
+    volume.write_rows(first.table, third.table);
+    third.count = first.count.plus(second.count.number);
     Ok(())
 }
 

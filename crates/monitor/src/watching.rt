@@ -1,65 +1,50 @@
-// The calls on a watch.
+// The calls on a watch. What they promise of runs differs from what a summary's calls promise of volumes (summing), so each has
+// its own, over what both do alike (holding). Each call is handed rule, letter and spare, by a rule of the project. The clause buffer
+// stands at each that changes one: what a watch was lent no type can say.
 ghost use Rattle.std.specs.Prelude.{◌≡◌, ◌≤◌, List, [], ◌∷◌, ◌++◌, length, Ok};
 ghost use Rattle.letter.specs.Heard.{Heard};
 ghost use Rattle.monitor.specs.Outside.{watch_state, summary_state};
 ghost use Rattle.rule.specs.Stands.{rule_of};
-ghost use Rattle.runs.specs.Calls.{after, letter_answer, letter_state, letter_spare, apply_answer, apply_state, apply_spare, report_answer, count_answer};
+ghost use Rattle.runs.specs.Calls.{after, letter_answer, letter_state, letter_spare, apply_answer, apply_state, apply_spare, report_answer};
 ghost use Rattle.runs.specs.Promises.{WatchLaw, BitLaw};
 ghost use Rattle.runs.specs.Runs.{Report, Run, Built, noted};
 ghost use Rattle.runs.specs.States.{opened, table_size, watch as a_watch};
 
-use crate::adding::add_row;
-use crate::checks::{check_apply, check_letter, check_report};
-use crate::count::Count;
-use crate::head::Head;
-use crate::heading::head_of;
-use crate::opening::write_empty;
-use crate::reading::read_rows;
-use crate::rows::corners;
+use crate::after::add_to_rows;
+use crate::held::Held;
+use crate::holding::refused;
+use crate::kept::FirstRow;
+use crate::rows::SPARE;
 use crate::summary::Summary;
-use crate::telling::tell;
+use crate::volume::Volume;
 use crate::watch::Watch;
 use cells::laid_rule::LaidRule;
 use fault::{WorkCause, WorkFault};
 use letter::kind::Letter;
 use scale::order::Scale;
 
-impl<'b, S: Scale> Watch<'b, S> {
-    // Opens a watch: the answer of open.
-    fn opening(rule: &LaidRule, buffer: &'b mut [S]) -> Watch<'b, S>
-        ensures state { watch_state result ≡ opened S.Scale.algebra a_watch (rule_of rule.now.laid.rule) buffer.old }
-        ensures buffer { result.table.ghost_name ≡ buffer.entry.ghost_name }
-    {
-        let head = head_of(rule);
-        if buffer.len() >= corners(head.cells) {
-            write_empty(head.cells, 1, buffer);
-        }
-        Watch {
-            head,
-            count: Count { number: 0 },
-            table: buffer,
-        }
-    }
-
-    // Reads a letter: the answer of letter.
-    fn read<L: Letter<Scale = S>>(
-        &mut self,
+impl<'b, S: Scale> Held<'b, S, FirstRow> {
+    // The checks of an apply, in order.
+    fn check_apply<'c>(
+        &self,
         rule: &LaidRule,
-        letter: &L,
-        spare: &mut [S],
+        summary: &Summary<'c, S>,
+        spare: &[S],
     ) -> Result<(), WorkFault>
-        ensures answer { result ≡ letter_answer S.Scale.algebra a_watch (rule_of rule.now.laid.rule) (watch_state self.old) (L.Letter.heard letter.now) spare.old }
-        ensures state { watch_state self.new ≡ letter_state S.Scale.algebra a_watch (rule_of rule.now.laid.rule) (watch_state self.old) (L.Letter.heard letter.now) spare.old }
-        ensures spare { spare.new ≡ letter_spare S.Scale.algebra a_watch (rule_of rule.now.laid.rule) (watch_state self.old) (L.Letter.heard letter.now) spare.old }
-        ensures buffer { self.new.table.ghost_name ≡ self.old.table.ghost_name }
+        ensures { result ≡ apply_answer S.Scale.algebra (rule_of rule.now.laid.rule) (watch_state self.now) (summary_state summary.now) spare.now }
     {
-        let room = self.table.len();
-        let count = self.count.number;
-        if let Err(fault) = check_letter(rule, &self.head, 1, room, count, letter, spare.len()) {
-            return Err(fault);
+        if self.is_short() || summary.is_short() {
+            return Err(refused(WorkCause::BufferShort));
         }
-        read_rows(&rule.laid, letter, 1, self.table, spare);
-        self.count = Count { number: count + 1 };
+        if self.differs(rule) || summary.differs(rule) {
+            return Err(refused(WorkCause::Differs));
+        }
+        if spare.len() < SPARE {
+            return Err(refused(WorkCause::SpareShort));
+        }
+        if self.count.overflows(summary.count.number) {
+            return Err(refused(WorkCause::CountAbove));
+        }
         Ok(())
     }
 
@@ -75,37 +60,14 @@ impl<'b, S: Scale> Watch<'b, S> {
         ensures spare { spare.new ≡ apply_spare S.Scale.algebra (rule_of rule.now.laid.rule) (watch_state self.old) (summary_state summary.now) spare.old }
         ensures buffer { self.new.table.ghost_name ≡ self.old.table.ghost_name }
     {
-        let room = self.table.len();
-        let count = self.count.number;
-        let more = summary.count.number;
-        let rows: &[S] = summary.table;
-        if let Err(fault) = check_apply(
-            rule,
-            &self.head,
-            room,
-            &summary.head,
-            rows.len(),
-            (count, more),
-            spare.len(),
-        ) {
-            return Err(fault);
-        }
-        add_row(rule.laid.count, self.table, rows, spare);
-        self.count = Count {
-            number: count + more,
+        self.check_apply(rule, summary, spare)?;
+        let volume = Volume {
+            laid: &rule.laid,
+            table: summary.table,
         };
+        add_to_rows(&volume, 1, self.table, spare);
+        self.count = self.count.plus(summary.count.number);
         Ok(())
-    }
-
-    // Reports: the answer of report.
-    fn told(&self, rule: &LaidRule) -> Result<(S, S, S), WorkFault>
-        ensures { result ≡ report_answer S.Scale.algebra a_watch (rule_of rule.now.laid.rule) (watch_state self.now) }
-    {
-        let table: &[S] = self.table;
-        if let Err(fault) = check_report(rule, &self.head, 1, table.len(), self.count.number) {
-            return Err(fault);
-        }
-        Ok(tell(&rule.laid, table))
     }
 
     // Opens a watch for a rule over a buffer: it writes the empty volume, or nothing where the buffer is too short.
@@ -115,7 +77,7 @@ impl<'b, S: Scale> Watch<'b, S> {
         ensures run { table_size a_watch (rule_of rule.now.laid.rule) ≤ length buffer.old → Run S.Scale.algebra (watch_state result) [] [] }
         ensures law { WatchLaw S.Scale.algebra (watch_state result) }
     {
-        Watch::opening(rule, buffer)
+        Held::opening(rule, buffer)
     }
 
     // Reads a letter.
@@ -162,15 +124,5 @@ impl<'b, S: Scale> Watch<'b, S> {
         ensures bits { BitLaw }
     {
         self.told(rule)
-    }
-
-    // How many letters it has read.
-    pub fn count(&self) -> Result<u32, WorkFault>
-        ensures { result ≡ count_answer a_watch (watch_state self.now) }
-    {
-        if self.table.len() < corners(self.head.cells) {
-            return Err(WorkFault::Refused(WorkCause::BufferShort, 0));
-        }
-        Ok(self.count.number)
     }
 }

@@ -1,5 +1,5 @@
 -- The end of the reader's run says which answer a text has, and no other: sentences and beginnings of sentences. Assumes nothing.
-use Rattle.std.proofs.Common.{◌≡◌, ℕ, ◌+◌, ◌<◌, ◌≤◌, Bool, true, false, eqb, ◌⊎◌, List, [], ◌∷◌, ◌++◌, length, get_or, take, drop, Some, None, Option, sym, refl, ap, ◌∙◌, subst, subst₂, zero-add, arith, length-append}
+use Rattle.std.proofs.Common.{◌≡◌, ℕ, ◌+◌, ◌<◌, ◌≤◌, Bool, true, false, eqb, List, [], ◌∷◌, ◌++◌, length, get_or, take, drop, Some, None, Option, sym, refl, ap, ◌∙◌, subst, subst₂, zero-add, arith, length-append}
 use Rattle.fault.specs.declared.TextCause.{TextCause}
 use Rattle.fault.specs.declared.TextCause.TheVariants.{Length, Byte, Early, LeftOver, Nodes, Hexadecimal}
 use Rattle.rule.specs.declared.leaf.Kind.TheVariants.{SomeStrong}
@@ -8,10 +8,13 @@ use Rattle.rule.specs.Reading.{Sentence, Begins, nodes, Fitting, BadByte, EndsEa
 use Rattle.rule.specs.Size.{size}
 use Rattle.rule.specs.Spelling.{spelled}
 use Rattle.rule.specs.Tree as plain
-use Rattle.std.proofs.lemmas.List.{append_assoc, append-nil, take_at, take-append-drop, length-take-le, drop_more, length_push}
+use Rattle.std.proofs.lemmas.List.{append_assoc, append-nil, take-append-drop, length-take-le, drop_more, length_push}
+use Rattle.std.specs.Option.{option_and_then}
+use Rattle.std.proofs.Math.Seq.{take-append_seam, take-append-add}
 use Rattle.std.proofs.lemmas.Bool.{eqb-true, eqb-false, eq-eqb}
-use Rattle.rule.proofs.Shapes.{What, Forest, spells, test, digit_of, Shape, shape, opens_shape, mores, none_some}
-use Rattle.rule.proofs.Walk.{State, onward, joined, walk, walk_append, reads_rule, start, Walked, walked, step_count, run_step}
+use Rattle.std.proofs.lemmas.Option.{none-some, option_and_then_some}
+use Rattle.rule.proofs.Shapes.{What, Forest, spells, test, digit_of, Shape, shape, opens_shape, mores, light}
+use Rattle.rule.proofs.Walk.{State, joined, walk, walk_append, reads_rule, start, Walked, walked, step_count, run_step}
 
 -- something for each want
 abbrev sample : (w : Want) → What w
@@ -29,12 +32,8 @@ samples (w ∷ ws) = (sample w, samples ws)
 known : (xs : List ℕ) (s : State) → start xs ≡ Some s → Walked (rule ∷ []) (λ f. f.0) xs s
 known xs s e = walked xs (rule ∷ []) (λ f. f.0) s (tt, tt) e
 
-some_onward : {A B : Type 0} (o : Option A) (f : A → Option B) (b : B) → onward o f ≡ Some b → (a : A) × (o ≡ Some a) × (f a ≡ Some b)
-some_onward None f b e = absurd (none_some e)
-some_onward (Some a) f b e = (a, refl, e)
-
 walk_front : (xs ys : List ℕ) (s : State) → start (xs ++ ys) ≡ Some s → (σ : State) × (start xs ≡ Some σ) × (walk σ.0 σ.1 ys ≡ Some s)
-walk_front xs ys s e = some_onward (start xs) _ s (sym (walk_append xs (rule ∷ []) (λ f. f.0) ys) ∙ e)
+walk_front xs ys s e = option_and_then_some _ (start xs) s (sym (walk_append xs (rule ∷ []) (λ f. f.0) ys) ∙ e) (λ σ e₁ e₂. (σ, e₁, e₂))
 
 -- a sentence is what is walked to the end, and its rule is the one made
 from_sentence : (r : plain.Rule) → start (spelled r) ≡ Some ([], λ f. r)
@@ -95,28 +94,21 @@ final_run m p ws bs cause (many w vs b cs s e l) = rw (opens_shape w b ∙ ap (m
 halts : (xs ys : List ℕ) (s : State) (cause : TextCause) → start xs ≡ Some s → nodes xs ≤ 48 → Final (nodes xs) s.0 ys cause → run 0 0 (rule ∷ []) (xs ++ ys) ≡ stop cause (length xs)
 halts xs ys s cause e few f = simp (zero-add, append-nil) at ((known xs s e).runs 0 0 [] ys (omega arith)) ∙ final_run (nodes xs) (length xs) s.0 ys cause f
 
-light : (w : Want) → weight w ≤ 1
-light rule = omega arith
-light segment = omega arith
-light kind = omega arith
-light tens = omega arith
-light (ones m) = omega arith
-
 -- one byte more
 walk_on : (xs : List ℕ) (w : Want) (ws : List Want) (k : Forest (w ∷ ws) → plain.Rule) (b : ℕ) → start xs ≡ Some (w ∷ ws, k)
-    → start (xs ++ b ∷ []) ≡ onward (shape w b) (λ s. Some (s.0 ++ ws, joined w ws k s))
-walk_on xs w ws k b e = walk_append xs (rule ∷ []) (λ f. f.0) (b ∷ []) ∙ ap (λ (o : Option State). onward o (λ s. walk s.0 s.1 (b ∷ []))) e
+    → start (xs ++ b ∷ []) ≡ option_and_then (λ s. Some (s.0 ++ ws, joined w ws k s)) (shape w b)
+walk_on xs w ws k b e = walk_append xs (rule ∷ []) (λ f. f.0) (b ∷ []) ∙ ap (λ (o : Option State). option_and_then (λ s. walk s.0 s.1 (b ∷ [])) o) e
 
 step : (xs : List ℕ) (w : Want) (ws : List Want) (k : Forest (w ∷ ws) → plain.Rule) (b : ℕ) (σ : Shape w) → start xs ≡ Some (w ∷ ws, k) → shape w b ≡ Some σ
     → (start (xs ++ b ∷ []) ≡ Some (σ.0 ++ ws, joined w ws k σ)) × (nodes (xs ++ b ∷ []) ≡ nodes xs + weight w)
 step xs w ws k b σ e q = (
-  walk_on xs w ws k b e ∙ ap (λ (o : Option (Shape w)). onward o (λ s. Some (s.0 ++ ws, joined w ws k s))) q,
+  walk_on xs w ws k b e ∙ ap (λ (o : Option (Shape w)). option_and_then (λ s. Some (s.0 ++ ws, joined w ws k s)) o) q,
   omega (arith, (known xs (w ∷ ws, k) e).count (b ∷ []), step_count w ws b σ [] (known xs (w ∷ ws, k) e).good q),
 )
 
 stuck : (xs : List ℕ) (w : Want) (ws : List Want) (k : Forest (w ∷ ws) → plain.Rule) (b : ℕ) → start xs ≡ Some (w ∷ ws, k) → shape w b ≡ None → Begins (xs ++ b ∷ []) → ⊥
 stuck xs w ws k b e q B =
-    none_some (sym (walk_on xs w ws k b e ∙ ap (λ (o : Option (Shape w)). onward o (λ s. Some (s.0 ++ ws, joined w ws k s))) q) ∙ (from_begins (xs ++ b ∷ []) B).1)
+    none-some _ (sym (walk_on xs w ws k b e ∙ ap (λ (o : Option (Shape w)). option_and_then (λ s. Some (s.0 ++ ws, joined w ws k s)) o) q) ∙ (from_begins (xs ++ b ∷ []) B).1)
 
 abbrev wanted : Option State → ℕ
 wanted None = 0
@@ -125,24 +117,18 @@ wanted (Some s) = length s.0
 unfinished : (xs : List ℕ) (w : Want) (ws : List Want) (k : Forest (w ∷ ws) → plain.Rule) → start xs ≡ Some (w ∷ ws, k) → Sentence xs → ⊥
 unfinished xs w ws k e (r, q) = omega (arith, ap wanted (sym e ∙ ap start (sym q) ∙ from_sentence r))
 
-take_first : (xs ys : List ℕ) → take (length xs) (xs ++ ys) ≡ xs
-take_first xs ys = take_at xs ys (length xs) refl
-
-take_next : (xs : List ℕ) (b : ℕ) (bs : List ℕ) → take (length xs + 1) (xs ++ b ∷ bs) ≡ xs ++ b ∷ []
-take_next xs b bs = rw (append_assoc xs (b ∷ []) bs) at (take_at (xs ++ b ∷ []) bs (length xs + 1) (length_push xs b))
-
 inside : (xs : List ℕ) (b : ℕ) (bs : List ℕ) → length xs < length (xs ++ b ∷ bs)
 inside xs b bs = omega (arith, length-append xs (b ∷ bs))
 
 means : (xs ys : List ℕ) (ws : List Want) (k : Forest ws → plain.Rule) (cause : TextCause) → Fitting (xs ++ ys) → start xs ≡ Some (ws, k) → nodes xs ≤ 48 → Final (nodes xs) ws ys cause
     → Means (xs ++ ys) cause (length xs)
 means xs ys ws k cause fit e few (ends w vs) = subst (λ (t : List ℕ). EndsEarly t (length xs)) (sym (append-nil xs)) (record { fitting = subst Fitting (append-nil xs) fit; end = refl; begun = to_begins xs _ e; few = few; short = unfinished xs w vs k e })
-means xs ys ws k cause fit e few (left b cs) = record { fitting = fit; inside = inside xs b cs; sentence = rw take_first (finished xs k e); few = rw take_first few }
+means xs ys ws k cause fit e few (left b cs) = record { fitting = fit; inside = inside xs b cs; sentence = rw take-append_seam (finished xs k e); few = rw take-append_seam few }
 means xs ys ws k cause fit e few (bad w vs b cs q) =
-    record { fitting = fit; inside = inside xs b cs; begun = rw take_first (to_begins xs _ e); short = rw take_first (unfinished xs w vs k e); few = rw take_first few; lost = rw take_next (stuck xs w vs k b e q) }
+    record { fitting = fit; inside = inside xs b cs; begun = rw take-append_seam (to_begins xs _ e); short = rw take-append_seam (unfinished xs w vs k e); few = rw take-append_seam few; lost = rw take-append-add (stuck xs w vs k b e q) }
 means xs ys ws k cause fit e few (many w vs b cs σ q l) =
     let (e₁, e₂) = step xs w vs k b σ e q in
-    record { fitting = fit; inside = inside xs b cs; full = rw take_first (omega (arith, light w)); begun = rw take_next (to_begins (xs ++ b ∷ []) _ e₁); over = rw take_next (e₂ ∙ l) }
+    record { fitting = fit; inside = inside xs b cs; full = rw take-append_seam (omega (arith, light w)); begun = rw take-append-add (to_begins (xs ++ b ∷ []) _ e₁); over = rw take-append-add (e₂ ∙ l) }
 
 run_done : (n p : ℕ) → run n p [] [] ≡ done
 unfolding run
@@ -152,7 +138,7 @@ same_end : (c d : TextCause) (p q : ℕ) → stop c p ≡ stop d q → (c ≡ d)
 same_end c d p q e = (cc, cc)
 
 not_done : (c : TextCause) (p : ℕ) → done ≡ stop c p → ⊥
-not_done c p e = let z : ◌≡◌ {A = ℕ} 0 1 = cc in omega arith
+not_done c p e = cc
 
 final_means : (xs ys : List ℕ) (ws : List Want) (k : Forest ws → plain.Rule) (c cause : TextCause) (p : ℕ) → Fitting (xs ++ ys) → start xs ≡ Some (ws, k) → nodes xs ≤ 48
     → Final (nodes xs) ws ys c → run (nodes xs) (length xs) ws ys ≡ stop cause p → Means (xs ++ ys) cause p
@@ -187,32 +173,31 @@ reaches (b ∷ ys) xs (w ∷ ws) k cause p fit e few r = meets (shape w b) refl 
     meets (Some σ) q rest = counts σ q (eqb (nodes xs + weight w) 49) refl (rest σ)
 
 bad_run : (xs : List ℕ) (b : ℕ) (bs : List ℕ) → BadByte (xs ++ b ∷ bs) (length xs) → run 0 0 (rule ∷ []) (xs ++ b ∷ bs) ≡ stop Byte (length xs)
-bad_run xs b bs m = let (s, e) = from_begins xs (rw (take_first xs (b ∷ bs)) at m.begun) in go s.0 s.1 e
+bad_run xs b bs m = let (s, e) = from_begins xs (rw (take-append_seam xs (b ∷ bs)) at m.begun) in go s.0 s.1 e
   where
     here : (w : Want) (ws : List Want) (k : Forest (w ∷ ws) → plain.Rule) → start xs ≡ Some (w ∷ ws, k) → (o : Option (Shape w)) → shape w b ≡ o → run 0 0 (rule ∷ []) (xs ++ b ∷ bs) ≡ stop Byte (length xs)
-    here w ws k e None q = halts xs (b ∷ bs) (w ∷ ws, k) Byte e (rw (take_first xs (b ∷ bs)) at m.few) (bad w ws b bs q)
-    here w ws k e (Some σ) q = absurd (m.lost (rw take_next (to_begins (xs ++ b ∷ []) _ (step xs w ws k b σ e q).0)))
+    here w ws k e None q = halts xs (b ∷ bs) (w ∷ ws, k) Byte e (rw (take-append_seam xs (b ∷ bs)) at m.few) (bad w ws b bs q)
+    here w ws k e (Some σ) q = absurd (m.lost (rw take-append-add (to_begins (xs ++ b ∷ []) _ (step xs w ws k b σ e q).0)))
 
     go : (ws : List Want) (k : Forest ws → plain.Rule) → start xs ≡ Some (ws, k) → run 0 0 (rule ∷ []) (xs ++ b ∷ bs) ≡ stop Byte (length xs)
-    go [] k e = absurd (m.short (rw take_first (finished xs k e)))
+    go [] k e = absurd (m.short (rw take-append_seam (finished xs k e)))
     go (w ∷ ws) k e = here w ws k e (shape w b) refl
 
 left_run : (xs : List ℕ) (b : ℕ) (bs : List ℕ) → BytesLeft (xs ++ b ∷ bs) (length xs) → run 0 0 (rule ∷ []) (xs ++ b ∷ bs) ≡ stop LeftOver (length xs)
 left_run xs b bs m = let (r, e) = m.sentence in
-    halts xs (b ∷ bs) ([], λ f. r) LeftOver (ap start (sym (e ∙ take_first xs (b ∷ bs))) ∙ from_sentence r) (rw (take_first xs (b ∷ bs)) at m.few) (left b bs)
+    halts xs (b ∷ bs) ([], λ f. r) LeftOver (ap start (sym (e ∙ take-append_seam xs (b ∷ bs))) ∙ from_sentence r) (rw (take-append_seam xs (b ∷ bs)) at m.few) (left b bs)
 
 many_run : (xs : List ℕ) (b : ℕ) (bs : List ℕ) → ManyNodes (xs ++ b ∷ bs) (length xs) → run 0 0 (rule ∷ []) (xs ++ b ∷ bs) ≡ stop Nodes (length xs)
 many_run xs b bs m =
-    let (s, e) = from_begins (xs ++ b ∷ []) (rw (take_next xs b bs) at m.begun) in
+    let (s, e) = from_begins (xs ++ b ∷ []) (rw (take-append-add xs (b ∷ bs) 1) at m.begun) in
     let (σ, e₁, e₂) = walk_front xs (b ∷ []) s e in go s σ.0 σ.1 e₁ e₂
   where
     go : (s : State) (ws : List Want) (k : Forest ws → plain.Rule) → start xs ≡ Some (ws, k) → walk ws k (b ∷ []) ≡ Some s → run 0 0 (rule ∷ []) (xs ++ b ∷ bs) ≡ stop Nodes (length xs)
-    go s [] k e q = absurd (none_some q)
-    go s (w ∷ ws) k e q =
-        let (σ, q₁, q₂) = some_onward (shape w b) _ s q in
-        let full : nodes xs ≡ 48 = rw (take_first xs (b ∷ bs)) at m.full in
-        let over : nodes (xs ++ b ∷ []) ≡ 49 = rw (take_next xs b bs) at m.over in
-        halts xs (b ∷ bs) (w ∷ ws, k) Nodes e (omega arith) (many w ws b bs σ q₁ (sym (step xs w ws k b σ e q₁).1 ∙ over))
+    go s [] k e q = absurd (none-some _ q)
+    go s (w ∷ ws) k e q = option_and_then_some _ (shape w b) s q (λ σ q₁ q₂.
+        let full : nodes xs ≡ 48 = rw (take-append_seam xs (b ∷ bs)) at m.full in
+        let over : nodes (xs ++ b ∷ []) ≡ 49 = rw (take-append-add xs (b ∷ bs) 1) at m.over in
+        halts xs (b ∷ bs) (w ∷ ws, k) Nodes e (omega arith) (many w ws b bs σ q₁ (sym (step xs w ws k b σ e q₁).1 ∙ over)))
 
 early_run : (t : List ℕ) (p : ℕ) → EndsEarly t p → run 0 0 (rule ∷ []) t ≡ stop Early p
 early_run t p m = let (s, e) = from_begins t m.begun in go s.0 s.1 e
@@ -252,16 +237,3 @@ accepts t r fit e few = (record { fitting = fit; spelling = e; few = few }, othe
     others : (b : Answer) → Holds t b → b ≡ accepted r
     others (accepted s) h = ap accepted (one_reading s r (h.spelling ∙ sym e))
     others (refused c q) h = absurd (not_done c q (sym (finishes t r e few) ∙ fixes t c q fit h))
-
--- a text that is empty or too long is refused for its length
-pub misfits : (t : List ℕ) → (length t ≡ 0) ⊎ (96 < length t) → Only t (refused Length 0)
-misfits t h = ((refl, h), others)
-  where
-    others : (b : Answer) → Holds t b → b ≡ refused Length 0
-    others (accepted r) m = absurd (omega arith)
-    others (refused Length q) m = ap (refused Length) m.0
-    others (refused Byte q) m = absurd (omega arith)
-    others (refused Early q) m = absurd (omega arith)
-    others (refused LeftOver q) m = absurd (omega arith)
-    others (refused Nodes q) m = absurd (omega arith)
-    others (refused Hexadecimal q) m = elim m [ ]

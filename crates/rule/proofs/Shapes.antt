@@ -13,6 +13,7 @@ use Rattle.rule.specs.Spelling.{digits, spelled_kind, spelled_segment, spelled}
 use Rattle.rule.specs.Tree.{Segment, single, either, chain, star, Rule, letter, negated, both, any, next, until, release}
 use Rattle.std.proofs.lemmas.List.{append_assoc, append-nil}
 use Rattle.std.proofs.lemmas.Bool.{eqb-true, and_from, le-leb}
+use Rattle.std.proofs.lemmas.Option.{none-some, same_Some}
 
 -- is the byte a digit up to the number
 abbrev pub digit_to : ℕ → ℕ → Bool
@@ -127,6 +128,14 @@ added_weight kind n = omega arith
 added_weight tens n = omega arith
 added_weight (ones m) n = omega arith
 
+-- no byte is more than one node
+pub light : (w : Want) → weight w ≤ 1
+light rule = omega arith
+light segment = omega arith
+light kind = omega arith
+light tens = omega arith
+light (ones m) = omega arith
+
 -- what a byte makes of what is read after it
 abbrev pub Shape : Want → Type 0
 Shape w = (more : List Want) × (Forest more → What w)
@@ -234,12 +243,6 @@ abbrev find : (w : Want) → List (Row w) → ℕ → Option (Shape w)
 find w [] b = None
 find w (r ∷ rs) b = cond (eqb b r.0) (Some r.1) (find w rs b)
 
-pub some_inj : {A : Type 0} {x y : A} → Some x ≡ Some y → x ≡ y
-some_inj e = cc
-
-pub none_some : {A : Type 0} {x : A} → None ≡ Some x → ⊥
-none_some e = let z : ◌≡◌ {A = ℕ} 0 1 = cc in omega arith
-
 abbrev given : {A : Type 0} (x : Bool) → (T x → A) → Option A
 given true f = Some (f tt)
 given false f = None
@@ -249,8 +252,8 @@ given_true true h f = refl
 given_true false h f = elim h [ ]
 
 given_some : {A : Type 0} (x : Bool) (f : T x → A) (a : A) → given x f ≡ Some a → (h : T x) × (f h ≡ a)
-given_some true f a e = (tt, some_inj e)
-given_some false f a e = absurd (none_some e)
+given_some true f a e = (tt, same_Some _ _ e)
+given_some false f a e = absurd (none-some _ e)
 
 -- what the byte makes of what is read after it; none where it is not allowed
 abbrev pub shape : (w : Want) → ℕ → Option (Shape w)
@@ -265,11 +268,11 @@ cond_or true y a b = refl
 cond_or false y a b = refl
 
 find_fits : (w : Want) (rs : List (Row w)) (b : ℕ) (s : Shape w) → find w rs b ≡ Some s → Fits w b s
-find_fits w [] b s e = absurd (none_some e)
+find_fits w [] b s e = absurd (none-some _ e)
 find_fits w (r ∷ rs) b s e = go (eqb b r.0) refl e (find_fits w rs b s)
   where
     go : (x : Bool) → eqb b r.0 ≡ x → cond x (Some r.1) (find w rs b) ≡ Some s → (find w rs b ≡ Some s → Fits w b s) → Fits w b s
-    go true q e rest = subst (λ (c : ℕ). Fits w c s) (sym (eqb-true b r.0 q)) (subst (Fits w r.0) (some_inj e) r.2)
+    go true q e rest = subst (λ (c : ℕ). Fits w c s) (sym (eqb-true b r.0 q)) (subst (Fits w r.0) (same_Some _ _ e) r.2)
     go false q e rest = rest e
 
 pub shape_fits : (w : Want) (b : ℕ) (s : Shape w) → Top w → shape w b ≡ Some s → Fits w b s

@@ -8,16 +8,14 @@ use Rattle.rule.specs.Reading.{nodes_from}
 use Rattle.rule.specs.Spelling.{digits, test_of, spelled_kind, spelled_segment, spelled}
 use Rattle.rule.specs.Tree.{Segment, single, either, chain, star, Rule, letter, negated, both, any, next, until, release}
 use Rattle.std.proofs.lemmas.List.{append_assoc}
+use Rattle.std.specs.Option.{option_and_then}
 use Rattle.std.proofs.lemmas.Bool.{cases_lt, ne_eqb}
-use Rattle.rule.proofs.Shapes.{What, Forest, spells, sizes, front, back, spells_append, sizes_append, is_kind, flag, Good, good_append, flag_append, added_weight, digit_of, Shape, digit_to, test, shape, shape_fits, opens_shape, mores, given_true, channel_path, channel_of, some_inj, none_some}
+use Rattle.std.proofs.lemmas.Option.{none-some, same_Some}
+use Rattle.rule.proofs.Shapes.{What, Forest, spells, sizes, front, back, spells_append, sizes_append, is_kind, flag, Good, good_append, flag_append, added_weight, digit_of, Shape, digit_to, test, shape, shape_fits, opens_shape, mores, given_true, channel_path, channel_of}
 
 -- what is left to be read, and the rule that what is read there completes
 abbrev pub State : Type 0
 State = (ws : List Want) × (Forest ws → Rule)
-
-abbrev pub onward : {A B : Type 0} → Option A → (A → Option B) → Option B
-onward None f = None
-onward (Some a) f = f a
 
 abbrev pub joined : (w : Want) (ws : List Want) (k : Forest (w ∷ ws) → Rule) (s : Shape w) → Forest (s.0 ++ ws) → Rule
 joined w ws k s f = k (s.1 (front s.0 ws f), back s.0 ws f)
@@ -25,16 +23,16 @@ joined w ws k s f = k (s.1 (front s.0 ws f), back s.0 ws f)
 abbrev pub walk : (ws : List Want) → (Forest ws → Rule) → List ℕ → Option State
 walk ws k [] = Some (ws, k)
 walk [] k (b ∷ bs) = None
-walk (w ∷ ws) k (b ∷ bs) = onward (shape w b) (λ s. walk (s.0 ++ ws) (joined w ws k s) bs)
+walk (w ∷ ws) k (b ∷ bs) = option_and_then (λ s. walk (s.0 ++ ws) (joined w ws k s) bs) (shape w b)
 
 -- a walk over two texts
-pub walk_append : (xs : List ℕ) (ws : List Want) (k : Forest ws → Rule) (ys : List ℕ) → walk ws k (xs ++ ys) ≡ onward (walk ws k xs) (λ s. walk s.0 s.1 ys)
+pub walk_append : (xs : List ℕ) (ws : List Want) (k : Forest ws → Rule) (ys : List ℕ) → walk ws k (xs ++ ys) ≡ option_and_then (λ s. walk s.0 s.1 ys) (walk ws k xs)
 walk_append [] ws k ys = refl
 walk_append (b ∷ xs) [] k ys = refl
 walk_append (b ∷ xs) (w ∷ ws) k ys = go (shape w b) (λ s. walk_append xs (s.0 ++ ws) (joined w ws k s) ys)
   where
-    go : (o : Option (Shape w)) → ((s : Shape w) → walk (s.0 ++ ws) (joined w ws k s) (xs ++ ys) ≡ onward (walk (s.0 ++ ws) (joined w ws k s) xs) (λ s. walk s.0 s.1 ys))
-        → onward o (λ s. walk (s.0 ++ ws) (joined w ws k s) (xs ++ ys)) ≡ onward (onward o (λ s. walk (s.0 ++ ws) (joined w ws k s) xs)) (λ s. walk s.0 s.1 ys)
+    go : (o : Option (Shape w)) → ((s : Shape w) → walk (s.0 ++ ws) (joined w ws k s) (xs ++ ys) ≡ option_and_then (λ s. walk s.0 s.1 ys) (walk (s.0 ++ ws) (joined w ws k s) xs))
+        → option_and_then (λ s. walk (s.0 ++ ws) (joined w ws k s) (xs ++ ys)) o ≡ option_and_then (λ s. walk s.0 s.1 ys) (option_and_then (λ s. walk (s.0 ++ ws) (joined w ws k s) xs) o)
     go None e = refl
     go (Some s) e = e s
 
@@ -116,8 +114,8 @@ pub step_count : (w : Want) (ws : List Want) (b : ℕ) (s : Shape w) (bs : List 
 step_count w ws b s bs h e = rw (flag_append s.0 ws h.1) ((shape_fits w b s h.0 e).count bs ∙ added_weight w _)
 
 pub walked : (xs : List ℕ) (ws : List Want) (k : Forest ws → Rule) (s : State) → Good ws → walk ws k xs ≡ Some s → Walked ws k xs s
-walked [] ws k s h e = subst (Walked ws k []) (some_inj e) (record { good = h; made = λ f. (f, refl, refl, omega arith); count = λ ys. omega arith; runs = λ n p rest bs l. ap₂ (λ (m q : ℕ). run m q (ws ++ rest) bs) (omega arith) (omega arith) })
-walked (b ∷ xs) [] k s h e = absurd (none_some e)
+walked [] ws k s h e = subst (Walked ws k []) (same_Some _ _ e) (record { good = h; made = λ f. (f, refl, refl, omega arith); count = λ ys. omega arith; runs = λ n p rest bs l. ap₂ (λ (m q : ℕ). run m q (ws ++ rest) bs) (omega arith) (omega arith) })
+walked (b ∷ xs) [] k s h e = absurd (none-some _ e)
 walked (b ∷ xs) (w ∷ ws) k s h e = go (shape w b) refl e (λ σ. walked xs (σ.0 ++ ws) (joined w ws k σ) s)
   where
     step : (σ : Shape w) → shape w b ≡ Some σ → Walked (σ.0 ++ ws) (joined w ws k σ) xs s → Walked (w ∷ ws) k (b ∷ xs) s
@@ -135,7 +133,7 @@ walked (b ∷ xs) (w ∷ ws) k s h e = go (shape w b) refl e (λ σ. walked xs (
           ∙ rw (← (append_assoc σ.0 ws rest)) (W.runs (n + weight w) (p + 1) rest bs (omega arith) ∙ ap₂ (λ (m q : ℕ). run m q (s.0 ++ rest) bs) (omega arith) (omega arith));
     }
 
-    go : (o : Option (Shape w)) → shape w b ≡ o → onward o (λ s. walk (s.0 ++ ws) (joined w ws k s) xs) ≡ Some s
+    go : (o : Option (Shape w)) → shape w b ≡ o → option_and_then (λ s. walk (s.0 ++ ws) (joined w ws k s) xs) o ≡ Some s
         → ((σ : Shape w) → Good (σ.0 ++ ws) → walk (σ.0 ++ ws) (joined w ws k σ) xs ≡ Some s → Walked (σ.0 ++ ws) (joined w ws k σ) xs s) → Walked (w ∷ ws) k (b ∷ xs) s
-    go None q e rest = absurd (none_some e)
+    go None q e rest = absurd (none-some _ e)
     go (Some σ) q e rest = step σ q (rest σ (good_append σ.0 ws (shape_fits w b σ h.0 q).good h.1) e)

@@ -1,6 +1,10 @@
 -- What a first byte says: how it is spelled and what it leaves to be read. Assumes nothing.
-use Rattle.std.specs.Prelude.{◌≡◌, ℕ, true, false, List, [], ◌∷◌, Some, None, codes, Option}
-use Rattle.rule.specs.Machine.{Want, rule, segment, kind, tens, opens}
+use Rattle.std.specs.Prelude.{◌≡◌, ℕ, false, List, [], ◌∷◌, Ok, Err, codes, Result}
+use Rattle.fault.specs.declared.TextCause.{TextCause}
+use Rattle.fault.specs.declared.TextCause.TheVariants.{Byte}
+use Rattle.rule.specs.Machine.{Want, rule, segment, kind, tens}
+use Rattle.rule.specs.Reading.{among}
+use Rattle.rule.specs.Signs.{Known}
 use Rattle.rule.specs.Spelling.{spelled_kind}
 use Rattle.rule.specs.declared.head.Course.{Course}
 use Rattle.rule.specs.declared.head.Course.TheVariants.{Until, Release}
@@ -13,18 +17,20 @@ use Rattle.rule.specs.declared.head.RuleHead.TheVariants.{Letter, Negated, Joine
 use Rattle.rule.specs.declared.head.SegmentHead.{SegmentHead}
 use Rattle.rule.specs.declared.head.SegmentHead.TheVariants.{Single, Pair}
 use Rattle.rule.specs.declared.head.TestHead.{TestHead}
-use Rattle.rule.specs.declared.head.TestHead.TheVariants.{Alone, OfChannel}
+use Rattle.rule.specs.declared.head.TestHead.TheVariants.{Best, Worst, Value, Opposite}
 use Rattle.rule.specs.declared.leaf.Kind.{Kind}
 
 abbrev pub test_sign : TestHead → List ℕ
-test_sign (Alone false) = codes "y"
-test_sign (Alone true) = codes "n"
-test_sign (OfChannel false) = codes "h"
-test_sign (OfChannel true) = codes "f"
+test_sign Best = codes "y"
+test_sign Worst = codes "n"
+test_sign Value = codes "h"
+test_sign Opposite = codes "f"
 
 abbrev pub test_wants : TestHead → List Want
-test_wants (Alone opposite) = []
-test_wants (OfChannel opposite) = tens ∷ []
+test_wants Best = []
+test_wants Worst = []
+test_wants Value = tens ∷ []
+test_wants Opposite = tens ∷ []
 
 abbrev pub pair_sign : Pairing → List ℕ
 pair_sign Either = codes "|"
@@ -61,16 +67,16 @@ rule_wants (Joined joint) = rule ∷ rule ∷ []
 rule_wants (Next k) = segment ∷ rule ∷ []
 rule_wants (Lasting course) = kind ∷ rule ∷ segment ∷ rule ∷ []
 
--- the byte is the sign of what is found; with none it is not allowed
-abbrev pub Known : {X : Type 0} → Want → (X → List ℕ) → ℕ → Option X → Type 0
-Known w sign b (Some x) = sign x ≡ b ∷ []
-Known w sign b None = opens w b ≡ None
+-- the byte is the sign of the test; with none it is no test's
+abbrev pub TestByte : ℕ → Result TestHead TextCause → Type 0
+TestByte b (Ok head) = test_sign head ≡ b ∷ []
+TestByte b (Err e) = (among b (codes "ynhf") ≡ false) × (e ≡ Byte)
 
-abbrev pub KindByte : ℕ → Option Kind → Type 0
+abbrev pub KindByte : ℕ → Result Kind TextCause → Type 0
 KindByte = Known kind spelled_kind
 
-abbrev pub SegmentByte : ℕ → Option SegmentHead → Type 0
+abbrev pub SegmentByte : ℕ → Result SegmentHead TextCause → Type 0
 SegmentByte = Known segment segment_sign
 
-abbrev pub RuleByte : ℕ → Option RuleHead → Type 0
+abbrev pub RuleByte : ℕ → Result RuleHead TextCause → Type 0
 RuleByte = Known rule rule_sign

@@ -1,8 +1,11 @@
 pub mod Heads
+pub mod Kinds
 pub mod Machine
 pub mod Parts
 pub mod Reading
 pub mod Reads
+pub mod Signs
+pub mod SignsLemmas
 pub mod Size
 pub mod Spelling
 pub mod Stands

@@ -53,3 +53,7 @@ run n p (w ∷ ws) [] = stop Early p
 run n p [] (b ∷ bs) = stop LeftOver p
 run n p (w ∷ ws) (b ∷ bs) =
     go_on p (opens w b) (λ more. cond (n + weight w == 49) (stop Nodes p) (run (n + weight w) (p + 1) (more ++ ws) bs))
+
+-- the highest second digit of a channel after its first
+abbrev pub highest : ℕ → ℕ
+highest d = cond (d == 0) 9 5

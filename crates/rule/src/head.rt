@@ -1,18 +1,23 @@
-// What the first byte of a test, a segment or a rule says.
-ghost use Rattle.rule.specs.Heads.{KindByte, RuleByte, SegmentByte};
+// What the first byte of a test, a kind, a segment or a rule says.
+ghost use Rattle.rule.specs.Heads.{KindByte, RuleByte, SegmentByte, TestByte};
 
 use crate::leaf::Kind;
+use fault::TextCause;
 
-// The first byte of a test; the flag says that it is an opposite.
+// The first byte of a test.
 #[derive(Clone, Copy)]
 pub enum TestHead {
-    // `y` or `n`
-    Alone(bool),
-    // `h` or `f`, and a channel follows
-    OfChannel(bool),
+    // `y`
+    Best,
+    // `n`
+    Worst,
+    // `h`, and a channel follows
+    Value,
+    // `f`, and a channel follows
+    Opposite,
 }
 
-// The sign before two segments.
+// The sign before two segments. This, Joint and Course are kinds, by which a constructor is chosen, and no steps.
 #[derive(Clone, Copy)]
 pub enum Pairing {
     Either,
@@ -49,50 +54,70 @@ pub enum RuleHead {
     Lasting(Course),
 }
 
-pub fn kind_of(b: u8) -> Option<Kind>
-    ensures { KindByte b result }
-{
-    match b as char {
-        'E' => Some(Kind::SomeStrong),
-        'e' => Some(Kind::SomeWeak),
-        'A' => Some(Kind::EveryStrong),
-        'a' => Some(Kind::EveryWeak),
-        _ => None,
+impl TryFrom<u8> for Kind {
+    type Error = TextCause;
+
+    ghost try_from_gives = { KindByte };
+
+    fn try_from(byte: u8) -> Result<Kind, TextCause> {
+        match byte as char {
+            'E' => Ok(Kind::SomeStrong),
+            'e' => Ok(Kind::SomeWeak),
+            'A' => Ok(Kind::EveryStrong),
+            'a' => Ok(Kind::EveryWeak),
+            _ => Err(TextCause::Byte),
+        }
     }
 }
 
-pub fn segment_head(b: u8) -> Option<SegmentHead>
-    ensures { SegmentByte b result }
-{
-    match b as char {
-        'y' => Some(SegmentHead::Single(TestHead::Alone(false))),
-        'n' => Some(SegmentHead::Single(TestHead::Alone(true))),
-        'h' => Some(SegmentHead::Single(TestHead::OfChannel(false))),
-        'f' => Some(SegmentHead::Single(TestHead::OfChannel(true))),
-        '|' => Some(SegmentHead::Pair(Pairing::Either)),
-        '.' => Some(SegmentHead::Pair(Pairing::Chain)),
-        '*' => Some(SegmentHead::Pair(Pairing::Star)),
-        _ => None,
+impl TryFrom<u8> for TestHead {
+    type Error = TextCause;
+
+    ghost try_from_gives = { TestByte };
+
+    fn try_from(byte: u8) -> Result<TestHead, TextCause> {
+        match byte as char {
+            'y' => Ok(TestHead::Best),
+            'n' => Ok(TestHead::Worst),
+            'h' => Ok(TestHead::Value),
+            'f' => Ok(TestHead::Opposite),
+            _ => Err(TextCause::Byte),
+        }
     }
 }
 
-pub fn rule_head(b: u8) -> Option<RuleHead>
-    ensures { RuleByte b result }
-{
-    match b as char {
-        'y' => Some(RuleHead::Letter(TestHead::Alone(false))),
-        'n' => Some(RuleHead::Letter(TestHead::Alone(true))),
-        'h' => Some(RuleHead::Letter(TestHead::OfChannel(false))),
-        'f' => Some(RuleHead::Letter(TestHead::OfChannel(true))),
-        '!' => Some(RuleHead::Negated),
-        '&' => Some(RuleHead::Joined(Joint::Both)),
-        '+' => Some(RuleHead::Joined(Joint::Any)),
-        'E' => Some(RuleHead::Next(Kind::SomeStrong)),
-        'e' => Some(RuleHead::Next(Kind::SomeWeak)),
-        'A' => Some(RuleHead::Next(Kind::EveryStrong)),
-        'a' => Some(RuleHead::Next(Kind::EveryWeak)),
-        'U' => Some(RuleHead::Lasting(Course::Until)),
-        'R' => Some(RuleHead::Lasting(Course::Release)),
-        _ => None,
+impl TryFrom<u8> for SegmentHead {
+    type Error = TextCause;
+
+    ghost try_from_gives = { SegmentByte };
+
+    fn try_from(byte: u8) -> Result<SegmentHead, TextCause> {
+        match byte as char {
+            '|' => Ok(SegmentHead::Pair(Pairing::Either)),
+            '.' => Ok(SegmentHead::Pair(Pairing::Chain)),
+            '*' => Ok(SegmentHead::Pair(Pairing::Star)),
+            _ => Ok(SegmentHead::Single(TestHead::try_from(byte)?)),
+        }
+    }
+}
+
+impl TryFrom<u8> for RuleHead {
+    type Error = TextCause;
+
+    ghost try_from_gives = { RuleByte };
+
+    fn try_from(byte: u8) -> Result<RuleHead, TextCause> {
+        match byte as char {
+            '!' => Ok(RuleHead::Negated),
+            '&' => Ok(RuleHead::Joined(Joint::Both)),
+            '+' => Ok(RuleHead::Joined(Joint::Any)),
+            'U' => Ok(RuleHead::Lasting(Course::Until)),
+            'R' => Ok(RuleHead::Lasting(Course::Release)),
+            // two errors with one meaning, of which the second is the answer: so a match
+            _ => match Kind::try_from(byte) {
+                Ok(kind) => Ok(RuleHead::Next(kind)),
+                Err(_) => Ok(RuleHead::Letter(TestHead::try_from(byte)?)),
+            },
+        }
     }
 }

@@ -2,12 +2,13 @@
 #![tactic(auto)]
 
 mod build;
-mod cursor;
 mod head;
 pub mod leaf;
+mod read;
 mod reader;
+mod sign;
 pub mod tree;
 
 pub use leaf::{Channel, Kind, Test};
-pub use reader::read_rule;
+pub use read::read_rule;
 pub use tree::{Rule, Segment};

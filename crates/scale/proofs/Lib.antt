@@ -1,3 +1,4 @@
 pub mod Codes
 pub mod Lattice
+pub mod MarginCodes
 pub mod VerdictLaws

@@ -1,6 +1,8 @@
 -- The margin scale: join is the larger number, meet the smaller, opposite the negated number. Assumes nothing.
-use Rattle.std.specs.Prelude.{◌≡◌, zero, suc, ◌%◌, Bool, true, false, cond, ℤ, pos, negsuc, neg_ℤ, ◌==◌, int_lt, nat_le, unsigned_abs, refl}
+use Rattle.std.specs.Prelude.{◌≡◌, ◌≢◌, Ok, Err, Result, zero, suc, ◌%◌, Bool, true, false, cond, ℤ, pos, negsuc, neg_ℤ, ◌==◌, int_lt, nat_le, unsigned_abs, refl}
 use Rattle.std.proofs.Common.{lit≤}
+use Rattle.scale.specs.declared.fault.CodeFault.{CodeFault}
+use Rattle.scale.specs.declared.fault.CodeFault.TheVariants.{Short, NoCode}
 use Rattle.scale.specs.declared.margin.Margin.{Margin}
 use Rattle.scale.specs.Laws.{Algebra}
 use Rattle.std.proofs.lemmas.Bool.{eqb-true, leb-true}
@@ -28,6 +30,12 @@ margin_if z false small o w = least
 -- the margin with a number; the least where no margin has it
 abbrev pub margin_of : ℤ → Margin
 margin_of z = margin_if z (unsigned_abs z % 2 == 1) (nat_le (unsigned_abs z) 32767) refl refl
+
+-- the margin with a number, or that no margin has it
+abbrev pub IsMarginNumbered : ℤ → Result Margin CodeFault → Type 0
+IsMarginNumbered number (Ok m) = m.number ≡ number
+IsMarginNumbered number (Err NoCode) = (m : Margin) → m.number ≢ number
+IsMarginNumbered number (Err Short) = ⊥
 
 abbrev pub margins : Algebra Margin
 margins = record {

@@ -1,5 +1,7 @@
 -- The verdict scale: join is the larger number, meet the smaller, opposite three minus the number. Assumes nothing.
-use Rattle.std.specs.Prelude.{ℕ, zero, suc, ◌-◌, min, max}
+use Rattle.std.specs.Prelude.{◌≡◌, ◌≢◌, ℕ, zero, suc, ◌-◌, Ok, Err, Result, min, max}
+use Rattle.scale.specs.declared.fault.CodeFault.{CodeFault}
+use Rattle.scale.specs.declared.fault.CodeFault.TheVariants.{Short, NoCode}
 use Rattle.scale.specs.declared.verdict.Verdict.{Verdict}
 use Rattle.scale.specs.declared.verdict.Verdict.TheVariants.{Broken, BrokenSoFar, KeptSoFar, Kept}
 use Rattle.scale.specs.Laws.{Algebra}
@@ -17,6 +19,12 @@ ranked zero = Broken
 ranked (suc zero) = BrokenSoFar
 ranked (suc (suc zero)) = KeptSoFar
 ranked (suc (suc (suc n))) = Kept
+
+-- the verdict with a number, or that no verdict has it
+abbrev pub IsVerdictNumbered : ℕ → Result Verdict CodeFault → Type 0
+IsVerdictNumbered number (Ok v) = rank v ≡ number
+IsVerdictNumbered number (Err NoCode) = (v : Verdict) → rank v ≢ number
+IsVerdictNumbered number (Err Short) = ⊥
 
 abbrev pub verdicts : Algebra Verdict
 verdicts = record {

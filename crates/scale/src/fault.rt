@@ -3,6 +3,6 @@
 pub enum CodeFault {
     // fewer bytes than a code has
     Short,
-    // bytes that no value puts
+    // bytes that no value puts, or a number that no value has
     NoCode,
 }

@@ -20,23 +20,13 @@ impl Stored for Margin {
     }
 
     fn put(self, bytes: &mut [u8]) -> Result<(), CodeFault> {
-        if bytes.len() < 2 {
-            return Err(CodeFault::Short);
-        }
-        let code = self.number.to_be_bytes();
-        bytes[0] = code[0];
-        bytes[1] = code[1];
+        let code = bytes.first_chunk_mut().ok_or(CodeFault::Short)?;
+        *code = self.number.to_be_bytes();
         Ok(())
     }
 
     fn take(bytes: &[u8]) -> Result<Margin, CodeFault> {
-        if bytes.len() < 2 {
-            return Err(CodeFault::Short);
-        }
-        let number = i16::from_be_bytes([bytes[0], bytes[1]]);
-        if number % 2 == 0 {
-            return Err(CodeFault::NoCode);
-        }
-        Ok(Margin { number })
+        let code = bytes.first_chunk::<2>().ok_or(CodeFault::Short)?;
+        Margin::try_from(i16::from_be_bytes(*code))
     }
 }

@@ -32,19 +32,11 @@ impl Scale for Margin {
     }
 
     fn join(self, other: Margin) -> Margin {
-        if self.number < other.number {
-            other
-        } else {
-            self
-        }
+        self.max(other)
     }
 
     fn meet(self, other: Margin) -> Margin {
-        if other.number < self.number {
-            other
-        } else {
-            self
-        }
+        self.min(other)
     }
 
     fn opposite(self) -> Margin {
@@ -54,6 +46,6 @@ impl Scale for Margin {
     }
 
     fn same(self, other: Margin) -> bool {
-        self.number == other.number
+        self == other
     }
 }

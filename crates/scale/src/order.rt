@@ -34,7 +34,8 @@ pub trait Scale: Copy + Sized {
     fn opposite(self) -> Self
         ensures { result ≡ algebra.opposite self };
 
-    // Yes exactly for equal values.
+    // Yes exactly for equal values. An operation of its own, as callers know it: a scale need not have `==`, which promises an
+    // equivalence and no more.
     fn same(self, other: Self) -> bool
         ensures equal { T result → self ≡ other }
         ensures told { self ≡ other → T result };

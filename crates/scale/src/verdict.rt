@@ -1,7 +1,8 @@
 // The verdict scale: broken, broken so far, kept so far, kept.
-ghost use Rattle.scale.specs.Verdicts.{verdicts};
+ghost use Rattle.scale.specs.Verdicts.{verdicts, IsVerdictNumbered};
 ghost use Rattle.std.proofs.Common.{rules};
 
+use crate::fault::CodeFault;
 use crate::order::Scale;
 
 // A verdict with its number.
@@ -14,6 +15,8 @@ pub enum Verdict {
 }
 
 use Verdict::{Broken, BrokenSoFar, Kept, KeptSoFar};
+
+// Join, meet and opposite are read off constant tables, by a rule of the project.
 
 // The larger number.
 const JOIN: [[Verdict; 4]; 4] = [
@@ -33,6 +36,23 @@ const MEET: [[Verdict; 4]; 4] = [
 
 // Three minus the number.
 const OPPOSITE: [Verdict; 4] = [Kept, KeptSoFar, BrokenSoFar, Broken];
+
+// The verdict with a number: a number above 3 has none.
+impl TryFrom<u8> for Verdict {
+    type Error = CodeFault;
+
+    ghost try_from_gives = { IsVerdictNumbered };
+
+    fn try_from(number: u8) -> Result<Verdict, CodeFault> {
+        match number {
+            0 => Ok(Broken),
+            1 => Ok(BrokenSoFar),
+            2 => Ok(KeptSoFar),
+            3 => Ok(Kept),
+            _ => Err(CodeFault::NoCode),
+        }
+    }
+}
 
 impl Scale for Verdict {
     ghost algebra = { verdicts };

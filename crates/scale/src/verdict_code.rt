@@ -20,23 +20,13 @@ impl Stored for Verdict {
     }
 
     fn put(self, bytes: &mut [u8]) -> Result<(), CodeFault> {
-        if bytes.is_empty() {
-            return Err(CodeFault::Short);
-        }
-        bytes[0] = self as u8;
+        let code = bytes.first_mut().ok_or(CodeFault::Short)?;
+        *code = self as u8;
         Ok(())
     }
 
     fn take(bytes: &[u8]) -> Result<Verdict, CodeFault> {
-        if bytes.is_empty() {
-            return Err(CodeFault::Short);
-        }
-        match bytes[0] {
-            0 => Ok(Verdict::Broken),
-            1 => Ok(Verdict::BrokenSoFar),
-            2 => Ok(Verdict::KeptSoFar),
-            3 => Ok(Verdict::Kept),
-            _ => Err(CodeFault::NoCode),
-        }
+        let code = bytes.first().ok_or(CodeFault::Short)?;
+        Verdict::try_from(*code)
     }
 }

@@ -1,16 +1,8 @@
 -- A rule with its `!` driven inward. Assumes nothing.
 use Rattle.std.specs.Prelude.{Bool, true, false, not}
-use Rattle.rule.specs.declared.leaf.Kind.{Kind}
-use Rattle.rule.specs.declared.leaf.Kind.TheVariants.{SomeStrong, SomeWeak, EveryStrong, EveryWeak}
+pub use Rattle.rule.specs.Kinds.{dual}
 use Rattle.rule.specs.declared.leaf.Test.{Test}
 use Rattle.rule.specs.Tree.{Rule, letter, negated, both, any, next, until, release}
-
--- E and a change places, and so do e and A
-abbrev pub dual : Kind → Kind
-dual SomeStrong = EveryWeak
-dual SomeWeak = EveryStrong
-dual EveryStrong = SomeWeak
-dual EveryWeak = SomeStrong
 
 -- y and n change places, and so do h and f
 abbrev pub flipped : Test → Test

@@ -7,44 +7,27 @@ use letter::bits::Bits;
 use rule::read_rule;
 use scale::verdict::Verdict;
 use std::alloc::Global;
+use std::array;
 use std::process::Abort;
 
-// The number of cells of a rule text, or 100 and the refusal's number.
-fn cells_of(heap: Global, text: &[u8]) -> usize {
-    match lay(heap, text) {
-        Ok(laid) => laid.count,
-        Err(fault) => 100 + usize::from(fault.number().unwrap_or(0)),
-    }
+// The number of cells of a rule text, or the refusal's number.
+fn cells_of(heap: Global, text: &[u8]) -> Result<usize, Option<u8>> {
+    lay(heap, text)
+        .map(|laid| laid.count)
+        .map_err(|fault| fault.number())
 }
 
 #[test]
 fn cells_are_counted(rt: HostRuntime) {
-    assert_eq!(rt; cells_of(rt.alloc(), b"h00"), 1);
-    assert_eq!(rt; cells_of(rt.alloc(), b"Uef01yh02"), 2);
-    assert_eq!(rt; cells_of(rt.alloc(), b"E*.h00h00.h00h01h00"), 5);
-    assert_eq!(rt; cells_of(rt.alloc(), b"EyEyEyEyEyEyEyh00"), 8);
-    assert_eq!(rt; cells_of(rt.alloc(), b"EyEyEyEyEyEyEyEyh00"), 106);
-    assert_eq!(rt; cells_of(rt.alloc(), b"h16"), 102);
+    assert_eq!(rt; cells_of(rt.alloc(), b"h00"), Ok(1));
+    assert_eq!(rt; cells_of(rt.alloc(), b"Uef01yh02"), Ok(2));
+    assert_eq!(rt; cells_of(rt.alloc(), b"E*.h00h00.h00h01h00"), Ok(5));
+    assert_eq!(rt; cells_of(rt.alloc(), b"EyEyEyEyEyEyEyh00"), Ok(8));
+    assert_eq!(rt; cells_of(rt.alloc(), b"EyEyEyEyEyEyEyEyh00"), Err(Some(6)));
+    assert_eq!(rt; cells_of(rt.alloc(), b"h16"), Err(Some(2)));
     let mut text = [b'!'; 48];
     text[47] = b'y';
-    assert_eq!(rt; cells_of(rt.alloc(), &text), 1);
-}
-
-// What the cells have at the log's end.
-#[derive(Clone, Copy)]
-enum End {
-    Marks,
-    Worst,
-    Best,
-}
-
-// A cell at the log's end.
-fn at_end(laid: &Laid, cell: usize, end: End) -> Verdict {
-    match end {
-        End::Marks => laid.mark(cell).unwrap_or(Verdict::Broken),
-        End::Worst => Verdict::Broken,
-        End::Best => Verdict::Kept,
-    }
+    assert_eq!(rt; cells_of(rt.alloc(), &text), Ok(1));
 }
 
 // One step back over a letter.
@@ -54,42 +37,55 @@ fn back(laid: &Laid, letter: &Bits, after: [Verdict; 8]) -> [Verdict; 8] {
     before
 }
 
-// Cell 0 before the letters, by steps from the log's end; 9 where there is none.
-fn by_steps(heap: Global, text: &[u8], letters: &[Bits], end: End) -> u8 {
-    let Ok(laid) = lay(heap, text) else {
-        return 9;
-    };
-    let mut cells = [Verdict::Broken; 8];
-    for k in 0..8 {
-        cells[k] = at_end(&laid, k, end);
-    }
+// Cell 0 before the letters, by steps from what each cell has at the log's end.
+fn by_steps<F: Fn(&Laid, usize) -> Verdict>(
+    heap: Global,
+    text: &[u8],
+    letters: &[Bits],
+    at_end: F,
+) -> Option<Verdict>
+    requires { F.IsAlwaysCallable at_end }
+{
+    let laid = lay(heap, text).ok()?;
+    let mut cells = array::from_fn(|cell| at_end(&laid, cell));
     for letter in letters.iter().rev() {
         cells = back(&laid, letter, cells);
     }
-    cells[0] as u8
+    Some(cells[0])
 }
 
-// The evaluator's report; nines where there is none.
-fn by_positions(heap: Global, text: &[u8], letters: &[Bits]) -> (u8, u8, u8) {
-    let Ok(rule) = read_rule(heap, text) else {
-        return (9, 9, 9);
-    };
-    match judge_log(heap, &rule, letters) {
-        Ok(Some((verdict, floor, ceiling))) => (verdict as u8, floor as u8, ceiling as u8),
-        _ => (9, 9, 9),
-    }
+// Verdict, floor and ceiling by steps.
+fn report_by_steps(
+    heap: Global,
+    text: &[u8],
+    letters: &[Bits],
+) -> Option<(Verdict, Verdict, Verdict)> {
+    let verdict = by_steps(heap, text, letters, |laid, cell| {
+        laid.mark(cell).unwrap_or(Verdict::Broken)
+    })?;
+    let floor = by_steps(heap, text, letters, |_, _| Verdict::Broken)?;
+    let ceiling = by_steps(heap, text, letters, |_, _| Verdict::Kept)?;
+    Some((verdict, floor, ceiling))
 }
 
-// The reports on every front of a log are the same by steps and by positions.
+// Verdict, floor and ceiling by the evaluator. The other tests of it want the verdict alone, by number.
+fn report_by_positions(
+    heap: Global,
+    text: &[u8],
+    letters: &[Bits],
+) -> Option<(Verdict, Verdict, Verdict)> {
+    let rule = read_rule(heap, text).ok()?;
+    judge_log(heap, &rule, letters).ok()?
+}
+
+// The reports on every front of a log are the same by steps and by positions. Fronts go by their length, since the library
+// has no iterator over them.
 fn check_fronts(rt: &impl Abort, heap: Global, text: &[u8], letters: [Bits; 5]) {
-    for k in 0..5 {
-        let log = &letters[0..k + 1];
-        let expected = by_positions(heap, text, log);
-        assert_ne!(rt; expected, (9, 9, 9));
-        let verdict = by_steps(heap, text, log, End::Marks);
-        let floor = by_steps(heap, text, log, End::Worst);
-        let ceiling = by_steps(heap, text, log, End::Best);
-        assert_eq!(rt; (verdict, floor, ceiling), expected);
+    for length in 1..=5 {
+        let log = &letters[..length];
+        let expected = report_by_positions(heap, text, log);
+        assert!(rt; expected.is_some());
+        assert_eq!(rt; report_by_steps(heap, text, log), expected);
     }
 }
 

@@ -5,27 +5,26 @@ use letter::line::read_bits;
 use letter::measured::Measured;
 use scale::verdict::Verdict;
 
-// The word of a line, or the refusal's number above all words.
-fn word(line: &[u8]) -> u32 {
-    match read_bits(line) {
-        Ok(letter) => u32::from(letter.word),
-        Err(fault) => 100_000 + u32::from(fault.number().unwrap_or(0)),
-    }
+// The word of a line, or the refusal's number.
+fn word(line: &[u8]) -> Result<u16, Option<u8>> {
+    read_bits(line)
+        .map(|letter| letter.word)
+        .map_err(|fault| fault.number())
 }
 
 #[test]
 fn lines_of_four_digits(rt: HostRuntime) {
-    let cases: [(&[u8], u32); 10] = [
-        (b"0000", 0),
-        (b"0006", 6),
-        (b"ffff", 65535),
-        (b"a01b", 40987),
-        (b"", 100_019),
-        (b"000", 100_019),
-        (b"00000", 100_019),
-        (b"00G0", 100_019),
-        (b"00A0", 100_019),
-        (b"\0\0\xff0", 100_019),
+    let cases: [(&[u8], Result<u16, Option<u8>>); 10] = [
+        (b"0000", Ok(0)),
+        (b"0006", Ok(6)),
+        (b"ffff", Ok(65535)),
+        (b"a01b", Ok(40987)),
+        (b"", Err(Some(19))),
+        (b"000", Err(Some(19))),
+        (b"00000", Err(Some(19))),
+        (b"00G0", Err(Some(19))),
+        (b"00A0", Err(Some(19))),
+        (b"\0\0\xff0", Err(Some(19))),
     ];
     for (line, expected) in cases {
         assert_eq!(rt; word(line), expected);

@@ -5,12 +5,10 @@ use scale::order::Scale;
 use scale::stored::Stored;
 use scale::verdict::Verdict;
 
-// The number of the margin that some bytes code, or 0.
-fn coded(bytes: &[u8]) -> i16 {
-    match <Margin as Stored>::take(bytes) {
-        Ok(margin) => margin.number,
-        Err(_) => 0,
-    }
+// The number of the margin that some bytes code.
+fn coded(bytes: &[u8]) -> Result<i16, CodeFault> {
+    let margin = <Margin as Stored>::take(bytes)?;
+    Ok(margin.number)
 }
 
 #[test]
@@ -23,11 +21,11 @@ fn opposite_at_both_ends(rt: HostRuntime) {
 
 #[test]
 fn codes_of_margins_and_verdicts(rt: HostRuntime) {
-    assert_eq!(rt; coded(b"\x00\x15"), 21);
-    assert_eq!(rt; coded(b"\xff\xf9\x00"), -7);
-    assert_eq!(rt; coded(b"\x80\x01"), -32767);
-    assert_eq!(rt; coded(b"\x80\x00"), 0);
-    assert_eq!(rt; coded(b"\x00\x02"), 0);
+    assert_eq!(rt; coded(b"\x00\x15"), Ok(21));
+    assert_eq!(rt; coded(b"\xff\xf9\x00"), Ok(-7));
+    assert_eq!(rt; coded(b"\x80\x01"), Ok(-32767));
+    assert_eq!(rt; coded(b"\x80\x00"), Err(CodeFault::NoCode));
+    assert_eq!(rt; coded(b"\x00\x02"), Err(CodeFault::NoCode));
     let mut bytes = [9u8; 3];
     assert_eq!(rt; Margin { number: -7 }.put(&mut bytes), Ok(()));
     assert_eq!(rt; bytes, [0xff, 0xf9, 9]);

@@ -7,18 +7,15 @@ use std::alloc::Global;
 use std::process::Abort;
 use std::test::Fail;
 
-// The verdict's number after the whole log; 9 where there is none.
-fn verdict(heap: Global, text: &[u8], letters: &[Bits]) -> u8 {
-    let Ok(rule) = read_rule(heap, text) else {
-        return 9;
-    };
-    match judge_log(heap, &rule, letters) {
-        Ok(Some((verdict, _, _))) => verdict as u8,
-        _ => 9,
-    }
+// The verdict's number after the whole log: the tests give verdicts by number.
+fn verdict(heap: Global, text: &[u8], letters: &[Bits]) -> Option<u8> {
+    let rule = read_rule(heap, text).ok()?;
+    let (verdict, _, _) = judge_log(heap, &rule, letters).ok()??;
+    Some(verdict as u8)
 }
 
-// A rule, the words of a log of at most five letters, and the verdict after each.
+// A rule, the words of a log of at most five letters, and the verdict after each. Five words always, so that they are made letters at
+// once; as many count as there are verdicts.
 #[derive(Drop)]
 struct Case {
     text: &'static [u8],
@@ -27,17 +24,11 @@ struct Case {
 }
 
 fn check_case(rt: &impl Abort, heap: Global, case: Case) {
-    let [a, b, c, d, e] = case.words;
-    let letters = [
-        Bits { word: a },
-        Bits { word: b },
-        Bits { word: c },
-        Bits { word: d },
-        Bits { word: e },
-    ];
+    let letters = case.words.map(|word| Bits { word });
     for (k, expected) in case.verdicts.iter().enumerate() {
         assert!(rt; k < 5);
-        assert_eq!(rt; verdict(heap, case.text, &letters[0..k + 1]), *expected);
+        let log = &letters[..k + 1];
+        assert_eq!(rt; verdict(heap, case.text, log), Some(*expected));
     }
 }
 
@@ -177,17 +168,12 @@ fn an_until_on_margins(rt: HostRuntime) -> Result<(), Fail> {
     };
     letter.readings[1] = -11;
     letter.readings[2] = -4;
-    let Ok(rule) = read_rule(rt.alloc(), b"Uef01yh02") else {
-        return Err(Fail::new("the rule is refused"));
-    };
-    let Ok(answer) = judge_log(rt.alloc(), &rule, &[letter]) else {
-        return Err(Fail::new("not judged"));
-    };
-    let Some(report) = answer else {
+    let rule = read_rule(rt.alloc(), b"Uef01yh02")?;
+    let Some((verdict, floor, ceiling)) = judge_log(rt.alloc(), &rule, &[letter])? else {
         return Err(Fail::new("no report"));
     };
-    assert_eq!(rt; report.0.number, 21);
-    assert_eq!(rt; report.1.number, -7);
-    assert_eq!(rt; report.2.number, 21);
+    assert_eq!(rt; verdict.number, 21);
+    assert_eq!(rt; floor.number, -7);
+    assert_eq!(rt; ceiling.number, 21);
     Ok(())
 }

@@ -1,5 +1,6 @@
 -- What `logwatch` answers to the rule's line and to a letter's line. Assumes nothing.
 use Rattle.std.specs.Prelude.{◌≡◌, ℕ, ◌<◌, ◌⊎◌, List, [], ◌∷◌, ◌++◌, length, Some, Ok, Err, string_bytes, Result, String, ◌≢◌}
+use Rattle.cells.specs.declared.laid_rule.LaidRule.{LaidRule}
 use Rattle.cells.specs.LaysRule.{LaysRule}
 use Rattle.fault.specs.declared.CellFault.{CellFault}
 use Rattle.fault.specs.declared.WorkFault.{WorkFault}
@@ -9,8 +10,6 @@ use Rattle.letter.specs.declared.bits.Bits.{Bits}
 use Rattle.letter.specs.Heard.{Heard}
 use Rattle.letter.specs.Lines.{four_digits}
 use Rattle.lines.specs.Answers.{refusal_text, report_text}
-use Rattle.watch_lines.specs.declared.opened.Opened.{Opened}
-use Rattle.watch_lines.specs.declared.opened.Opened.TheVariants as opened
 use Rattle.rule.specs.Tree.{Rule}
 use Rattle.runs.specs.Calls.{letter_answer, letter_state, letter_spare, told}
 use Rattle.runs.specs.Runs.{Report, Run}
@@ -23,9 +22,9 @@ use Rattle.std.specs.declared.alloc.AllocError.{AllocError}
 use Rattle.std.specs.declared.alloc.Global.{Global}
 
 -- the rule's line: the rule with its cells laid, or the line that says which refusal it is
-abbrev pub RuleAnswered : List ℕ → Result Opened AllocError → Type 0
-RuleAnswered line (Ok (opened.Rule laid)) = LaysRule line (Ok laid)
-RuleAnswered line (Ok (opened.Refused text)) =
+abbrev pub RuleAnswered : List ℕ → Result (Result LaidRule (String Global)) AllocError → Type 0
+RuleAnswered line (Ok (Ok laid)) = LaysRule line (Ok laid)
+RuleAnswered line (Ok (Err text)) =
     (fault : CellFault) × (n : ℕ) × LaysRule line (Err fault) × (cell_number_of fault ≡ Some n) × (string_bytes text ≡ refusal_text n)
 RuleAnswered line (Err e) = Unit {0}
 

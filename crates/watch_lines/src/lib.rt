@@ -1,7 +1,4 @@
-// The text lines of `logwatch`: it opens a watch for the rule's line (opened) and lets it read a letter a line (watching). The
-// bytes of a refusal's number stand in refusal.
+// The text lines of `logwatch`: it lays the rule for the rule's line and lets a watch read a letter a line (watching).
 #![tactic(auto)]
 
-pub mod opened;
-pub mod refusal;
 pub mod watching;

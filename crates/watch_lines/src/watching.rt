@@ -7,8 +7,6 @@ ghost use Rattle.rule.specs.Stands.{rule_of};
 ghost use Rattle.runs.specs.Runs.{Report, Run};
 ghost use Rattle.scale.specs.Verdicts.{verdicts};
 
-use crate::opened::Opened;
-use crate::refusal::refusal_number;
 use cells::laid_rule::LaidRule;
 use cells::lay_rule::lay_rule;
 use letter::line::read_bits;
@@ -17,22 +15,21 @@ use monitor::watch::Watch;
 use scale::verdict::Verdict;
 use std::alloc::{AllocError, Global};
 
-// The rule's line: the rule with its cells laid, or the line that says which refusal it is.
-pub fn rule_line(heap: Global, line: &[u8]) -> Result<Opened, AllocError>
+// The rule's line: the rule with its cells laid, or the line that says which refusal it is, which is no error of the program.
+pub fn rule_line(heap: Global, line: &[u8]) -> Result<Result<LaidRule, String>, AllocError>
     ensures { RuleAnswered line.now result }
 {
-    let fault = match lay_rule(heap, line) {
-        Ok(rule) => return Ok(Opened::Rule(rule)),
-        Err(fault) => fault,
-    };
-    match fault.number() {
-        Some(number) => Ok(Opened::Refused(refusal_number(heap, number)?)),
-        None => Err(AllocError),
+    match lay_rule(heap, line) {
+        Ok(rule) => Ok(Ok(rule)),
+        Err(fault) => {
+            let number = fault.number().ok_or(AllocError)?;
+            Ok(Err(answer::refusal_number(heap, number)?))
+        }
     }
 }
 
-// The line that answers a letter's line: the answer of watch_line. The report of a watch that has just read a letter is never
-// refused.
+// The line that answers a letter's line: the answer of watch_line. A refusal is answered by a line too, and so is no error here.
+// The report of a watch that has just read a letter is never refused.
 fn answered<'b>(
     heap: Global,
     rule: &LaidRule,
@@ -48,12 +45,12 @@ fn answered<'b>(
         Err(fault) => return answer::refusal(heap, fault),
     };
     if let Err(fault) = watch.letter(rule, &letter, spare) {
-        return refusal_number(heap, fault.number());
+        return answer::refusal_number(heap, fault.number());
     }
-    match (watch.report(rule), watch.count()) {
-        (Ok(values), Ok(count)) => answer::report(heap, count as usize, values),
-        _ => Err(AllocError),
-    }
+    let (Ok(values), Ok(count)) = (watch.report(rule), watch.count()) else {
+        return Err(AllocError);
+    };
+    answer::report(heap, count as usize, values)
 }
 
 // The line that answers a letter's line: how many letters the watch has now read and its report, or a refusal (answer). What

@@ -1,4 +1,4 @@
 use Rattle.cells.proofs.row.+halve.Given as goal
 
 abbrev pub decreases-halve : goal.decreases-halve
-decreases-halve g l = l.n
+decreases-halve g l = l.cells

@@ -1,4 +1,0 @@
-use Rattle.crosscheck.proofs.parts.+sum_up.Given as goal
-
-abbrev pub decreases-sum_up : goal.decreases-sum_up
-decreases-sum_up g l = l.depth

@@ -1,4 +1,0 @@
-use Rattle.crosscheck.proofs.texts.+put_rule.Given as goal
-
-abbrev pub decreases-put_rule : goal.decreases-put_rule
-decreases-put_rule l = l.depth

@@ -1,4 +1,0 @@
-use Rattle.crosscheck.proofs.texts.+put_segment.Given as goal
-
-abbrev pub decreases-put_segment : goal.decreases-put_segment
-decreases-put_segment l = l.depth

@@ -1,8 +1,0 @@
-use Rattle.std.proofs.Common.{◌≡◌, ◌-◌, ◌≤◌}
-use Rattle.semantics.specs.Folds.{meet_over}
-use Rattle.evaluator.specs.Tables.{cell, entry}
-use Rattle.evaluator.proofs.grid.Grid.every_along.Given as goal
-
-abbrev pub invariant-loop-k : goal.invariant-loop-k
-invariant-loop-k g l = let A = g.S.Scale.algebra in
-    (l.k - l.low ≤ l.high - l.low) × (l.product ≡ meet_over A l.low l.k (λ k. A.join (A.opposite (cell A l.self l.from k)) (entry A l.row k)))
