@@ -28,7 +28,7 @@ if [ "$point" = all ] || [ "$point" = 2 ]; then
     git grep -hoE '\bfn [a-z_]+' "$commit" -- "$rt" | sort | uniq -d | show '2 names of functions that stand more than once'
 fi
 if [ "$point" = all ] || [ "$point" = 3 ]; then
-    find_in 'for [a-z][a-z_]* in [^ ]*\.\.|while ' "$rt" | show '3 loops that count'
+    find_in 'for [a-z][a-z_]* in .*\.\.|while ' "$rt" | show '3 loops that count'
     find_in 'for _ in [^ ]*\.\.' "$rt" | show '3 loops that go round so many times'
 fi
 if [ "$point" = all ] || [ "$point" = 4 ]; then
