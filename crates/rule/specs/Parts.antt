@@ -1,5 +1,6 @@
 -- What the inner functions of the reader promise. Assumes nothing.
 use Rattle.std.specs.Prelude.{◌≡◌, ℕ, ◌+◌, ◌<◌, ◌≤◌, false, ◌&&◌, List, [], ◌∷◌, ◌++◌, length, drop, Some, None, Ok, Err, Option, Result, nat_le}
+use Rattle.fault.specs.declared.TextCause.{TextCause}
 use Rattle.fault.specs.declared.TextCause.TheVariants.{Early}
 use Rattle.fault.specs.declared.TextFault.{TextFault}
 use Rattle.fault.specs.declared.TextFault.TheVariants.{Refused, NoMemory}
@@ -47,11 +48,12 @@ pub record Advanced (before : Reader) (count : ℕ) (after : Reader) : Type 0 wh
   pub place : after.at ≡ before.at + 1
   pub nodes : after.nodes ≡ before.nodes + count
 
--- a byte was read that is so many nodes, and leaves its wants
+-- a byte was read that is so many nodes, and leaves its wants; or the reading stops, by a refusal at this place: reading a sign makes
+-- nothing, so it never wants memory
 abbrev pub SignAt : {X : Type 0} → Want → (X → List ℕ) → (X → List Want) → ℕ → Reader → Reader → Result X TextFault → Type 0
 SignAt w sign left count before after (Ok x) =
     (length after.rest.now < length before.rest.now) × Passed before (w ∷ []) (sign x) count (left x) after
-SignAt w sign left count before after (Err e) = Stops before (w ∷ []) e
+SignAt w sign left count before after (Err e) = Stops before (w ∷ []) e × (cause : TextCause) × (e ≡ Refused cause before.at)
 
 -- a whole part was read
 abbrev pub PartAt : {X : Type 0} → Want → (X → List ℕ) → (X → ℕ) → Reader → Reader → Result X TextFault → Type 0
