@@ -72,7 +72,8 @@ impl<S: Scale> Next<S> {
         requires same { self.now.table.matches.size ≡ suc (length hold.now) }
         ensures { (t : S → S → S → S) → ((g h x r : S) → F.post turn g h x r → r ≡ t g h x) → IfOk result (λ row. Turning S.Scale.algebra t self.now (length hold.now) hold.now goal.now row.items) }
     {
-        let mut row = vec![in heap; S::worst(); hold.len()]?;
+        // no `vec!`, which copies by the scale's `clone`: a scale promises nothing of that, and it may fail
+        let mut row = row_from_fn(heap, hold.len(), |_position| S::worst())?;
         for k in (0..hold.len()).rev() {
             let ahead = Ahead {
                 next: self,
