@@ -2,36 +2,65 @@
 // `cells` it first prints the cells of the rule.
 #![tactic(auto)]
 
+ghost use Rattle.std.specs.Prelude.{◌≡◌, ◌≤◌, length};
+
 mod cell_words;
 
 use cell_words::show_cells;
 use lines::answer::refusal;
 use lines::judging::answer_line;
-use lines::line::Line;
+use lines::line::{Line, take_bytes};
 use lines::log::Log;
 use rule::{Rule, read_rule};
 use std::alloc::Global;
-use std::io::{BufReader, Bytes, Read, Stdin};
-use std::iter::Fuse;
+use std::io::{Read, Stdin};
 use std::{env, io};
 
-// The bytes of the input; once it has ended it is not read again.
-type Input = Fuse<Bytes<BufReader<Stdin>>>;
+// The standard input, or none once it has ended, and what is read ahead of it: the bytes `from..to` of a place of fixed size, so
+// that reading wants no memory.
+#[derive(Drop)]
+struct Input {
+    stdin: Option<Stdin>,
+    place: [u8; 65536],
+    from: usize,
+    to: usize,
+    ghost ordered: { from ≤ to },
+    ghost within: { to ≤ 65536 },
+    ghost long: { length place ≡ 65536 },
+}
 
-// The next line of the input; none at its end, where an empty tail is no line. Not as in `logwatch`, which looks into its buffer
-// so that it can answer before it waits.
-fn next_line(input: &mut Input) -> io::Result<Option<Line>> {
-    let mut line = Line::empty();
-    for byte in input {
-        match byte? {
-            b'\n' => return Ok(Some(line)),
-            byte => line.push(byte),
+impl Input {
+    // The next line; none at the input's end, where an empty tail is no line. Not as in `logwatch`, which writes out its answers
+    // before it waits, and reads through a buffer on the heap.
+    fn next_line(&mut self) -> io::Result<Option<Line>> {
+        let Some(mut stdin) = self.stdin else {
+            return Ok(None);
+        };
+        let mut line = Line::empty();
+        // a count, since a loop must be seen to end: the line's end comes before it
+        for _ in 0..u64::MAX {
+            if self.from == self.to {
+                let count = stdin.read(&mut self.place)?;
+                if count == 0 {
+                    break;
+                }
+                self.from = 0;
+                self.to = count;
+            }
+            match take_bytes(&mut line, &self.place[self.from..self.to]) {
+                Some(taken) => {
+                    self.from += taken;
+                    return Ok(Some(line));
+                }
+                None => self.from = self.to,
+            }
         }
-    }
-    if line.bytes().is_empty() {
-        Ok(None)
-    } else {
-        Ok(Some(line))
+        self.stdin = None;
+        if line.bytes().is_empty() {
+            Ok(None)
+        } else {
+            Ok(Some(line))
+        }
     }
 }
 
@@ -40,7 +69,7 @@ fn judge_letters(rt: &impl Print, heap: Global, rule: &Rule, input: &mut Input) 
     let mut log = Log::empty();
     // a count, since a loop must be seen to end: the input's end comes before it
     for _ in 0..u64::MAX {
-        let Some(line) = next_line(input)? else {
+        let Some(line) = input.next_line()? else {
             break;
         };
         let Some(text) = answer_line(heap, rule, &mut log, line.bytes())? else {
@@ -54,8 +83,13 @@ fn judge_letters(rt: &impl Print, heap: Global, rule: &Rule, input: &mut Input) 
 fn main(rt: HostRuntime) -> io::Result<()> {
     let heap = rt.alloc();
     let cells = env::args(&rt)?.any(|word| word.as_str() == "cells");
-    let mut input = BufReader::new(heap, rt.stdin())?.bytes().fuse();
-    let line = next_line(&mut input)?.unwrap_or(Line::empty());
+    let mut input = Input {
+        stdin: Some(rt.stdin()),
+        place: [0; 65536],
+        from: 0,
+        to: 0,
+    };
+    let line = input.next_line()?.unwrap_or(Line::empty());
     match read_rule(heap, line.bytes()) {
         Ok(rule) => {
             if cells {

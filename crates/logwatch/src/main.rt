@@ -2,23 +2,13 @@
 #![tactic(auto)]
 
 use cells::laid_rule::LaidRule;
-use lines::line::Line;
+use lines::line::{Line, take_bytes};
 use monitor::watch::Watch;
 use scale::verdict::Verdict;
 use std::alloc::Global;
 use std::io;
 use std::io::{BufRead, BufReader, BufWriter, Stdin, Stdout, Write};
 use watch_lines::watching::{rule_line, watch_line};
-
-// Adds bytes to the line up to a line's end, and says how many bytes that took, the end's own included; none if no line ends
-// there.
-fn take_bytes(line: &mut Line, bytes: &[u8]) -> Option<usize> {
-    let end = bytes.iter().position(|byte| *byte == b'\n');
-    for byte in &bytes[..end.unwrap_or(bytes.len())] {
-        line.push(*byte);
-    }
-    end.map(|at| at + 1)
-}
 
 // The standard streams: what is read ahead, or none once the input has ended, and what is still to be written.
 #[derive(Drop)]

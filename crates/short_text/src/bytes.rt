@@ -37,6 +37,16 @@ impl<const N: usize> ShortText<N> {
         }
     }
 
+    // More bytes; past the Nth they are passed over.
+    pub fn extend(&mut self, more: &[u8])
+        ensures { text_of self.new ≡ take N (text_of self.old ++ more.now) }
+    {
+        let count = more.len().min(N - self.len);
+        let place = &mut self.place[..];
+        place[self.len..self.len + count].copy_from_slice(&more[..count]);
+        self.len += count;
+    }
+
     // The bytes.
     pub fn bytes(&self) -> &[u8]
         ensures { result.now ≡ text_of self.now }
