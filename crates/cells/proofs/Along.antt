@@ -20,7 +20,7 @@ module _ {S : Type 0} (A : Algebra S) where
   none every = cond every A.best A.worst
 
   -- a test worth v, with what comes after it
-  abbrev hit : Bool → S → S → S
+  abbrev pub hit : Bool → S → S → S
   hit every v x = cond every (A.join (A.opposite v) x) (A.meet v x)
 
   module _ (value : Test → ℕ → S) (n : ℕ) (every : Bool) where

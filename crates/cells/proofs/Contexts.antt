@@ -29,7 +29,7 @@ module _ {C V : Type 0} (plus : V → V → V) (none : V) (worth : Segment → C
   follows (chain a b) c within = follows a (left (chain a b) c) (worth b (right (chain a b) c)) ++ follows b (right (chain a b) c) within
   follows (star a b) c within = follows a (left (star a b) c) (worth (star a b) c) ++ follows b (right (star a b) c) within
 
-  worths_length : (a : Segment) (c : C) → length (worths a c) ≡ length (tests a)
+  pub worths_length : (a : Segment) (c : C) → length (worths a c) ≡ length (tests a)
   unfolding tests worths
   worths_length (single t) c = refl
   worths_length (either a b) c = simp length-append (ap₂ ◌+◌ (worths_length a _) (worths_length b _))

@@ -1,43 +1,32 @@
 -- A rule and its cells before a letter, as the code goes through them: `!` driven inward on the way. Assumes nothing.
 use Rattle.std.proofs.Common.{◌≡◌, ℕ, suc, ◌+◌, ◌-◌, ◌<◌, ◌≤◌, Bool, true, false, cond, not, ◌⊎◌, List, ◌∷◌, ◌++◌, length, get_or, sym, refl, ap, ◌∙◌, subst, ap₂, inl, inr, add-one, arith}
 use Rattle.semantics.specs.Inward.{flipped, inward}
-use Rattle.cells.specs.Reading.{on_letter, cells_of, blended, kind_under, meets_parts}
+use Rattle.cells.specs.Reading.{blended, kind_under, meets_parts}
 use Rattle.cells.specs.Step.{test_cells, inner_cells, wants_every, next_before, tests_before, before, befores}
 use Rattle.cells.specs.Walk.{cells_in, enter, follow_at, Walked}
 use Rattle.cells.proofs.Counts.{inward_cells}
 use Rattle.cells.proofs.Tables.{tests_long, befores_length}
-use Rattle.cells.proofs.Walking.{walked}
-use Rattle.letter.specs.Heard.{Heard}
 use Rattle.rule.specs.declared.leaf.Kind.{Kind}
 use Rattle.rule.specs.declared.leaf.Test.{Test}
 use Rattle.rule.specs.Tree.{Segment, Rule, letter, negated, both, any, next, until, release}
-use Rattle.scale.specs.Laws.{Algebra, Lawful}
+use Rattle.scale.specs.Laws.{Algebra}
 use Rattle.std.proofs.lemmas.Grind.{get_or_head, get_or_tail}
 use Rattle.std.proofs.lemmas.List.{get_or_append_left, get_or-append_right}
 
 -- reading a list by numbers that start at base
 module _ {X : Type 0} (d : X) where
-  read_later : (x : X) (xs : List X) (base k : ℕ) → base < k → get_or (x ∷ xs) (k - base) d ≡ get_or xs (k - (base + 1)) d
+  pub read_later : (x : X) (xs : List X) (base k : ℕ) → base < k → get_or (x ∷ xs) (k - base) d ≡ get_or xs (k - (base + 1)) d
   read_later x xs base k h = get_or_tail x xs (k - base) d (omega arith)
       ∙ (let z : k - base - 1 ≡ k - (base + 1) = omega arith in ap (λ i. get_or xs i d) z)
 
-  read_front : (xs ys : List X) (m base k : ℕ) → length xs ≡ m → base ≤ k → k < base + m → get_or (xs ++ ys) (k - base) d ≡ get_or xs (k - base) d
+  pub read_front : (xs ys : List X) (m base k : ℕ) → length xs ≡ m → base ≤ k → k < base + m → get_or (xs ++ ys) (k - base) d ≡ get_or xs (k - base) d
   read_front xs ys m base k e l h = get_or_append_left xs ys d (k - base) (omega arith)
 
-  read_back : (xs ys : List X) (m base k : ℕ) → length xs ≡ m → base + m ≤ k → get_or (xs ++ ys) (k - base) d ≡ get_or ys (k - (base + m)) d
+  pub read_back : (xs ys : List X) (m base k : ℕ) → length xs ≡ m → base + m ≤ k → get_or (xs ++ ys) (k - base) d ≡ get_or ys (k - (base + m)) d
   read_back xs ys m base k e l = get_or-append_right xs ys m (k - base) d e (omega arith)
       ∙ (let z : k - base - m ≡ k - (base + m) = omega arith in ap (λ i. get_or ys i d) z)
 
-module _ {S : Type 0} {A : Algebra S} (L : Lawful A) (l : Heard S) (cells : List S) where
-  W : Walked A
-  W = walked L
-
-  abbrev value : Test → S
-  value = on_letter A l
-
-  abbrev after : ℕ → S
-  after = cells_of A cells
-
+module _ {S : Type 0} {A : Algebra S} (W : Walked A) (value : Test → S) (after : ℕ → S) where
   abbrev B : Bool → Rule → ℕ → S
   B odd r base = before A value after (inward odd r) base
 
@@ -72,12 +61,12 @@ module _ {S : Type 0} {A : Algebra S} (L : Lawful A) (l : Heard S) (cells : List
   negated_is false r base = refl
   negated_is true r base = refl
 
-  both_is : (odd : Bool) (r s : Rule) (base : ℕ) → B odd (both r s) base ≡ blended A (not odd) (B odd r base) (B odd s (base + inner_cells r))
+  pub both_is : (odd : Bool) (r s : Rule) (base : ℕ) → B odd (both r s) base ≡ blended A (not odd) (B odd r base) (B odd s (base + inner_cells r))
   unfolding before inward
   both_is false r s base = ap (A.meet _) (second_at false r s base)
   both_is true r s base = ap (A.join _) (second_at true r s base)
 
-  any_is : (odd : Bool) (r s : Rule) (base : ℕ) → B odd (any r s) base ≡ blended A odd (B odd r base) (B odd s (base + inner_cells r))
+  pub any_is : (odd : Bool) (r s : Rule) (base : ℕ) → B odd (any r s) base ≡ blended A odd (B odd r base) (B odd s (base + inner_cells r))
   unfolding before inward
   any_is false r s base = ap (A.join _) (second_at false r s base)
   any_is true r s base = ap (A.meet _) (second_at true r s base)
@@ -92,14 +81,14 @@ module _ {S : Type 0} {A : Algebra S} (L : Lawful A) (l : Heard S) (cells : List
       blended A meets (B odd s (base + 1 + inner_cells r + cells_in a false))
       (blended A (not meets) (B odd r (base + 1)) (next_at odd k a base (base + 1 + inner_cells r)))
 
-  until_is : (odd : Bool) (k : Kind) (r : Rule) (a : Segment) (s : Rule) (base : ℕ) → B odd (until k r a s) base ≡ turn odd odd k r a s base
+  pub until_is : (odd : Bool) (k : Kind) (r : Rule) (a : Segment) (s : Rule) (base : ℕ) → B odd (until k r a s) base ≡ turn odd odd k r a s base
   unfolding before inward
   until_is false k r a s base = ap₂ A.join (ap (B false s) (goal_base false r a base))
       (ap₂ A.meet (ap (B false r) (sym (add-one base))) (next_walked false k a base _ _ (tests_base false r base)))
   until_is true k r a s base = ap₂ A.meet (ap (B true s) (goal_base true r a base))
       (ap₂ A.join (ap (B true r) (sym (add-one base))) (next_walked true k a base _ _ (tests_base true r base)))
 
-  release_is : (odd : Bool) (k : Kind) (r : Rule) (a : Segment) (s : Rule) (base : ℕ) → B odd (release k r a s) base ≡ turn (not odd) odd k r a s base
+  pub release_is : (odd : Bool) (k : Kind) (r : Rule) (a : Segment) (s : Rule) (base : ℕ) → B odd (release k r a s) base ≡ turn (not odd) odd k r a s base
   unfolding before inward
   release_is false k r a s base = ap₂ A.meet (ap (B false s) (goal_base false r a base))
       (ap₂ A.join (ap (B false r) (sym (add-one base))) (next_walked false k a base _ _ (tests_base false r base)))
@@ -123,7 +112,7 @@ module _ {S : Type 0} {A : Algebra S} (L : Lawful A) (l : Heard S) (cells : List
   tests_length : (k : Kind) (a : Segment) (op base : ℕ) → length (tests_before A value after k a op base) ≡ cells_in a false
   tests_length k a op base = tests_long A value after k a op base ∙ sym (W.counted a)
 
-  inner_length : (odd : Bool) (r : Rule) (base : ℕ) → length (Bs odd r base) ≡ inner_cells r
+  pub inner_length : (odd : Bool) (r : Rule) (base : ℕ) → length (Bs odd r base) ≡ inner_cells r
   inner_length odd r base = befores_length A value after (inward odd r) base ∙ inward_cells odd r
 
   pub letter_cell : (odd : Bool) (t : Test) (base k : ℕ) → cell_in (Bs odd (letter t) base) base k ≡ A.worst

@@ -21,7 +21,7 @@ module _ {S : Type 0} (after : ℕ → S) where
   reads_right [] ys base on v e = let same : base ≡ on = omega arith in subst (λ b. Reads after b ys) same v
   reads_right (x ∷ xs) ys base on v e = reads_right xs ys (suc base) on v.1 (omega arith)
 
-  reads_all : (xs : List S) (base : ℕ) (d : S) → ((k : ℕ) → after (k + base) ≡ get_or xs k d) → Reads after base xs
+  pub reads_all : (xs : List S) (base : ℕ) (d : S) → ((k : ℕ) → after (k + base) ≡ get_or xs k d) → Reads after base xs
   reads_all [] base d h = record {}
   reads_all (x ∷ xs) base d h =
       let here : 0 + base ≡ base = omega arith in
@@ -31,7 +31,7 @@ module _ {S : Type 0} (A : Algebra S) (value : Test → ℕ → S) (n : ℕ) whe
   pub ended_now : (f : ℕ → S) (m : S) (i : ℕ) → i < n → ended A value n f m i ≡ f i
   ended_now f m i h = cond-false _ _ _ (ne_eqb i n (λ e. omega arith))
 
-  ended_end : (f : ℕ → S) (m : S) → ended A value n f m n ≡ m
+  pub ended_end : (f : ℕ → S) (m : S) → ended A value n f m n ≡ m
   ended_end f m = cond-true _ _ _ (eq-eqb n n refl)
 
   -- a next goes along its segment

@@ -15,8 +15,17 @@ pub fn row_at<S: Scale>(row: &[S], cells: &[S]) -> Option<S>
 }
 
 // The row of so many cells at the values that a closure gives for them, and none exactly where the row has not 2 ^ n values
-// for n cells.
+// for n cells; the laws of rows stand here too, since what is worked out row by row calls this.
 pub fn row_by<S: Scale, F: Fn(usize) -> S>(row: &[S], cells: usize, value: F) -> Option<S>
+    requires { (cell : ℕ) → cell < cells → F.pre value cell }
+    ensures answer { RowBy S.Scale.algebra row.now cells (F.post value) result }
+    ensures laws { (n : ℕ) → RowLaws S.Scale.algebra n }
+{
+    fitting_row_by(row, cells, value)
+}
+
+// The answer of row_by.
+fn fitting_row_by<S: Scale, F: Fn(usize) -> S>(row: &[S], cells: usize, value: F) -> Option<S>
     requires { (cell : ℕ) → cell < cells → F.pre value cell }
     ensures { RowBy S.Scale.algebra row.now cells (F.post value) result }
 {

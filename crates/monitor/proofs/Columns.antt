@@ -1,5 +1,5 @@
 -- What one letter and the marks give for each cell, and rows written over a table. Assumes nothing.
-use Rattle.std.proofs.Common.{◌≡◌, ℕ, zero, suc, ◌+◌, ◌-◌, ◌*◌, ◌^◌, ◌<◌, ◌≤◌, false, List, ◌++◌, map, length, get_or, take, drop, replicate, Some, None, Ok, Err, Option, Result, sym, refl, ap, ◌∙◌, ap₂, subst, ⊎_elim, arith}
+use Rattle.std.proofs.Common.{◌≡◌, ℕ, zero, suc, ◌+◌, ◌-◌, ◌*◌, ◌^◌, ◌<◌, ◌≤◌, false, List, ◌++◌, map, length, get_or, take, drop, Some, None, Ok, Err, Option, Result, sym, refl, ap, ◌∙◌, ap₂, subst, ⊎_elim, arith}
 use borrow.Rule.Slice.PartMut.{put_mid}
 use denote.Param.Members.{Mut}
 use Rattle.cells.proofs.Tables.{step_length}
@@ -17,7 +17,7 @@ use Rattle.monitor.specs.Work.{letter_table, row_then}
 use Rattle.rule.specs.Tree.{Rule}
 use Rattle.runs.proofs.Engine.{at_same}
 use Rattle.runs.proofs.Written.{length_listing, get_or_listing, length_rows}
-use Rattle.runs.specs.Calls.{cleared, told}
+use Rattle.runs.specs.Calls.{told}
 use Rattle.runs.specs.States.{cells_of_rule, listing, rows, table_in}
 use Rattle.scale.specs.Laws.{Algebra, Lawful}
 use Rattle.semantics.specs.Inward.{inward}
@@ -62,10 +62,6 @@ module _ {S : Type 0} where
       (λ i h. get_or_listing n _ i d (omega (arith, length_listing n (λ j. get_or xs j d))))
 
 module _ {S : Type 0} (A : Algebra S) where
-  -- the spare whose first values are left worst
-  pub spare_cleared : (m : ℕ) (worst spare : List S) → worst ≡ replicate m A.worst → m ≡ 312 → worst ++ drop 312 spare ≡ cleared A spare
-  spare_cleared m worst spare e whole = ap (λ xs. xs ++ drop 312 spare) (e ∙ ap (λ i. replicate i A.worst) whole)
-
   -- a step from a corner's cells writes a column of the letter's table
   pub stepped_column : (l : Heard S) (r : Rule) (values old new : List S) (n corner : ℕ) (answer : Result (Unit {0}) StepFault)
       → Done A l r (take n values) old new answer → n ≡ cells_of_rule r → n ≤ length old → take n values ≡ corner_cells A n corner

@@ -3,11 +3,13 @@ use Rattle.std.proofs.Common.{◌≡◌, ℕ, ◌+◌, ◌-◌, ◌*◌, ◌^◌
 use borrow.Rule.Slice.PartMut.{put_mid}
 use Rattle.cells.specs.Rows.{followed}
 use Rattle.monitor.specs.Work.{row_then}
+use Rattle.runs.specs.Calls.{cleared}
 use Rattle.runs.specs.States.{listing, rows, table_in}
 use Rattle.runs.proofs.Engine.{at_same}
 use Rattle.runs.proofs.Written.{length_rows, rows_row, listing_set, listing_cong}
 use Rattle.scale.specs.Laws.{Algebra, Lawful}
 use Rattle.std.proofs.lemmas.List.Edits.{length-between, get_or-between}
+use Rattle.std.proofs.lemmas.Slice.{drop-append-drop}
 use Rattle.std.specs.List.{between, FoldsTo}
 use Rattle.std.proofs.lemmas.List.{take_at, drop-drop, drop_at, append_assoc}
 
@@ -78,7 +80,7 @@ module _ {S : Type 0} {A : Algebra S} (L : Lawful A) where
   row_followed n k row buffer t h = listing_cong (2 ^ n) _ _ (λ corner l. at_same L n _ _ _ _ h (λ j m. refl))
 
   -- row k of a buffer's table
-  row_of : (n k size : ℕ) (buffer : List S) (c : ℕ) → size ≡ 2 ^ n → c < 2 ^ n
+  pub row_of : (n k size : ℕ) (buffer : List S) (c : ℕ) → size ≡ 2 ^ n → c < 2 ^ n
       → get_or (between (k * size) ((k + 1) * size) buffer) c A.worst ≡ table_in A n buffer k c
   row_of n k size buffer c whole l =
       get_or-between buffer (k * size) ((k + 1) * size) c A.worst (omega arith) ∙ ap (λ m. get_or buffer (k * m + c) A.worst) whole
@@ -89,3 +91,8 @@ module _ {S : Type 0} {A : Algebra S} (L : Lawful A) where
       → put_mid (k * size) ((k + 1) * size - k * size) now part ≡ rows n (k + 1) (followed A n (table_in A n first) t) ++ drop ((k + 1) * 2 ^ n) old
   row_added n k size first old now part t whole e is = row_more n k size (followed A n (table_in A n first) t) old now part whole e
       (is ∙ row_followed n k (between (k * size) ((k + 1) * size) first) first t (λ c l. row_of n k size first c whole l))
+
+  -- the spare is cleared whatever row stood at its front
+  pub cleared_same : (m : ℕ) (row spare written : List S) → length row ≡ m → m ≤ 312 → written ≡ row ++ drop m spare → cleared A written ≡ cleared A spare
+  cleared_same m row spare written same h e =
+      ap (λ ys. replicate 312 A.worst ++ ys) (ap (λ ys. drop 312 ys) e ∙ drop-append-drop m spare row 312 h same)

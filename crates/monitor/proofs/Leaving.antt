@@ -1,9 +1,10 @@
 -- What accepted calls may rely on, and what they answer and leave: the rows that were written are the tables that the calls speak
 -- of. Assumes nothing.
-use Rattle.std.proofs.Common.{◌≡◌, ℕ, suc, ◌+◌, ◌*◌, ◌^◌, ◌≤◌, false, eqb, List, length, Ok, sym, refl, ap, ◌∙◌, subst₂, mul-le-mul_right, arith}
+use Rattle.std.proofs.Common.{◌≡◌, ℕ, suc, ◌+◌, ◌*◌, ◌^◌, ◌≤◌, false, eqb, List, length, Ok, sym, refl, ap, ◌∙◌, subst₂, arith}
 use Rattle.cells.specs.Rows.{followed}
 use Rattle.cells.specs.Step.{inner_cells}
 use Rattle.letter.specs.Heard.{Heard}
+use Rattle.monitor.specs.Checks.{report_check}
 use Rattle.monitor.specs.declared.head.Head.{Head}
 use Rattle.monitor.specs.Outside.{own, state}
 use Rattle.monitor.specs.Work.{letter_table, rows_then}
@@ -12,16 +13,19 @@ use Rattle.rule.specs.Tree.{Rule}
 use Rattle.rule.proofs.Sentences.{one_reading}
 use Rattle.runs.specs.Calls.{Answer, after, cleared, differs, letter_answer, letter_state, letter_spare, apply_answer, apply_state, apply_spare, join_answer, told, report_answer}
 use Rattle.runs.specs.States.{State, Form, watch, summary, cells_of_rule, rows_kept, table_size, short, table_in, tabled}
-use Rattle.runs.proofs.Checks.{LetterFacts, letter_facts, ApplyFacts, apply_facts, JoinFacts, join_facts, onward, after_accepted}
+use Rattle.runs.proofs.Checks.{LetterFacts, letter_facts, ApplyFacts, apply_facts, JoinFacts, join_facts, past, onward, after_accepted}
 use Rattle.scale.specs.Laws.{Algebra}
 use Rattle.semantics.specs.Inward.{inward}
 use Rattle.std.proofs.lemmas.Slice.Eq.{bytes_eq-Decides}
 use Rattle.std.proofs.lemmas.Bool.{ltb-false, not-false}
 
 -- a watch and a summary keep a row at least, since a rule has a cell
-some_row : (form : Form) (r : Rule) → 1 ≤ rows_kept form r
-some_row watch r = omega arith
-some_row summary r = let inner : ℕ = inner_cells (inward false r) in let e : cells_of_rule r ≡ suc inner = refl in omega arith
+pub some_row : (form : Form) (r : Rule) (n room : ℕ) → rows_kept form r * 2 ^ n ≤ room → 2 ^ n ≤ room
+some_row watch r n room fits = omega (arith, fits)
+some_row summary r n room fits =
+    let inner : ℕ = inner_cells (inward false r) in
+    let more : suc inner * 2 ^ n ≤ room = fits in
+    omega arith
 
 -- after an accepted call there is what is new
 after_new : {X : Type 0} (answer : Answer) (new old : X) → answer ≡ Ok tt → new ≡ after answer new old
@@ -93,21 +97,24 @@ module _ {S : Type 0} (A : Algebra S) where
         room summary third r n n cells facts.third_rules (cells ∙ ap cells_of_rule (sym facts.third_rules)) facts.third_room,
       )
 
-  -- a report that no check refuses: the state and the rule of the call
-  module _ (form : Form) (s : State S) (r : Rule) (fits : false ≡ short form s) (texts : false ≡ differs r s) where
+  -- an accepted report: the state and the rule of the call
+  module _ (form : Form) (s : State S) (r : Rule) (accepted : report_check form r s ≡ Ok tt) where
     rules_same : s.rule ≡ r
-    rules_same = sym (one_reading r s.rule ((bytes_eq-Decides (spelled r) (spelled s.rule)).0 (not-false _ (sym texts))))
+    rules_same =
+        let fits = past (short form s) _ _ tt accepted in
+        let texts = past (differs r s) _ _ tt fits.1 in
+        sym (one_reading r s.rule ((bytes_eq-Decides (spelled r) (spelled s.rule)).0 (not-false _ texts.0)))
 
     pub report_room : (n : ℕ) → n ≡ cells_of_rule r → 2 ^ n ≤ length s.buffer
     report_room n cells =
-        let rows : rows_kept form s.rule * 2 ^ n ≤ length s.buffer =
-        room form s r n (rows_kept form s.rule) cells rules_same refl (ltb-false (length s.buffer) (table_size form s.rule) (sym fits)) in
-        let some : 1 ≤ rows_kept form s.rule = some_row form s.rule in
-        let more : 1 * 2 ^ n ≤ rows_kept form s.rule * 2 ^ n = mul-le-mul_right (2 ^ n) some in
-        omega arith
+        let fits = past (short form s) _ _ tt accepted in
+        some_row form s.rule n (length s.buffer)
+        (room form s r n (rows_kept form s.rule) cells rules_same refl (ltb-false (length s.buffer) (table_size form s.rule) fits.0))
 
-    pub report_told : (values : S × S × S) → eqb s.count 0 ≡ false → values ≡ told A (record { rule = r; count = 0; buffer = s.buffer })
-        → Ok values ≡ report_answer A form r s
-    report_told values some tells =
+    pub report_told : (values : S × S × S) → values ≡ told A (record { rule = r; count = 0; buffer = s.buffer }) → Ok values ≡ report_answer A form r s
+    report_told values tells =
+        let fits = past (short form s) _ _ tt accepted in
+        let texts = past (differs r s) _ _ tt fits.1 in
+        let some = past (eqb s.count 0) _ _ tt texts.1 in
         ap Ok (tells ∙ ap (λ q. told A (record { rule = q; count = 0; buffer = s.buffer })) (sym rules_same))
-        ∙ sym (onward (short form s) _ _ (sym fits) ∙ onward (differs r s) _ _ (sym texts) ∙ onward (eqb s.count 0) _ _ some)
+        ∙ sym (onward (short form s) _ _ fits.0 ∙ onward (differs r s) _ _ texts.0 ∙ onward (eqb s.count 0) _ _ some.0)

@@ -1,3 +1,4 @@
+pub mod Checks
 pub mod Heads
 pub mod Outside
 pub mod Work

@@ -98,5 +98,5 @@ pub(crate) fn add_to_rows<S: Scale, A: After<S>>(
     for k in 0..count {
         add_to_row(after, &mut table[k * size..(k + 1) * size], used);
     }
-    clear(used);
+    clear(SPARE, spare);
 }

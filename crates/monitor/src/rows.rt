@@ -1,5 +1,5 @@
 // Rows on slices.
-ghost use Rattle.std.specs.Prelude.{◌≡◌, ◌^◌, ◌≤◌, length, replicate};
+ghost use Rattle.std.specs.Prelude.{◌≡◌, ◌^◌, ◌≤◌, ◌++◌, length, drop, replicate};
 
 use scale::order::Scale;
 
@@ -15,10 +15,11 @@ pub(crate) fn corners(cells: usize) -> usize
     1usize << cells
 }
 
-// Leaves the spare's values worst.
-pub(crate) fn clear<S: Scale>(spare: &mut [S])
-    ensures { spare.new ≡ replicate (length spare.old) S.Scale.algebra.worst }
+// Leaves the first values worst.
+pub(crate) fn clear<S: Scale>(count: usize, values: &mut [S])
+    requires { count ≤ length values.old }
+    ensures { values.new ≡ replicate count S.Scale.algebra.worst ++ drop count values.old }
 {
     // a closure: tried with `S::worst` by name, but the check does not cover that here
-    spare.fill_with(|| S::worst());
+    values[..count].fill_with(|| S::worst());
 }

@@ -1,6 +1,7 @@
 // The report: what row 0 tells, which is verdict, floor and ceiling.
 ghost use Rattle.std.specs.Prelude.{◌≡◌, ◌^◌, ◌<◌, ◌≤◌, false, length, slice_index_or};
 ghost use Rattle.cells.specs.Step.{end_marks};
+ghost use Rattle.monitor.specs.Checks.{report_check};
 ghost use Rattle.monitor.specs.Outside.{state_of};
 ghost use Rattle.rule.specs.Stands.{rule_of};
 ghost use Rattle.runs.specs.Calls.{told, report_answer};
@@ -36,9 +37,9 @@ fn tell<S: Scale>(laid: &Laid, table: &[S]) -> (S, S, S)
 }
 
 impl<'b, S: Scale, K: Kept> Held<'b, S, K> {
-    // Reports: the answer of report.
-    pub(crate) fn told(&self, rule: &LaidRule) -> Result<(S, S, S), WorkFault>
-        ensures { result ≡ report_answer S.Scale.algebra K.form (rule_of rule.now.laid.rule) (state_of self.now) }
+    // The checks of a report, spelled out as those of each call are.
+    fn check_report(&self, rule: &LaidRule) -> Result<(), WorkFault>
+        ensures { result ≡ report_check K.form (rule_of rule.now.laid.rule) (state_of self.now) }
     {
         if self.is_short() {
             return Err(refused(WorkCause::BufferShort));
@@ -49,6 +50,14 @@ impl<'b, S: Scale, K: Kept> Held<'b, S, K> {
         if self.count.number == 0 {
             return Err(refused(WorkCause::NoLetter));
         }
+        Ok(())
+    }
+
+    // Reports: the answer of report.
+    pub(crate) fn told(&self, rule: &LaidRule) -> Result<(S, S, S), WorkFault>
+        ensures { result ≡ report_answer S.Scale.algebra K.form (rule_of rule.now.laid.rule) (state_of self.now) }
+    {
+        self.check_report(rule)?;
         Ok(tell(&rule.laid, self.table))
     }
 }

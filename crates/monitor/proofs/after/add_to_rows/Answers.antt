@@ -1,8 +1,8 @@
-use Rattle.std.proofs.Common.{◌*◌, ◌≤◌, length, refl, arith}
+use Rattle.std.proofs.Common.{◌*◌, ◌≤◌, length, length-append, drop, refl, ◌∙◌, arith}
 use borrow.Author.Rules.{scaled_fits≤}
 use Rattle.cells.specs.Rows.{followed}
-use Rattle.monitor.proofs.Columns.{row_read, spare_cleared}
-use Rattle.monitor.proofs.Fronts.{row_none, row_within}
+use Rattle.monitor.proofs.Columns.{row_read}
+use Rattle.monitor.proofs.Fronts.{row_none, row_within, cleared_same}
 use Rattle.monitor.proofs.after.add_to_rows.Goals as goal
 use Rattle.std.proofs.lemmas.List.{length-take-le}
 use Rattle.runs.specs.States.{table_in}
@@ -31,6 +31,11 @@ loop-k-preserved g c =
     (g.A.After.table c.args.after.now) c.corners-size.ensures.count
     c.loop-k.invariant c.add_to_row.ensures
 
+pub clear-requires : goal.clear-requires
+clear-requires g c =
+    omega (arith, c.requires.room, length-append c.loop-k.used (drop 312 c.args.spare.now), length-take-le 312 c.args.spare.now (omega arith))
+
 pub returns-clause-spare : goal.returns-clause-spare
 returns-clause-spare g c =
-    spare_cleared g.S.Scale.algebra _ c.clear.new.spare c.args.spare.now c.clear.ensures (omega (arith, length-take-le 312 c.args.spare.now (omega arith)))
+    c.clear.ensures ∙ cleared_same g.met.S.Scale.lawful 312 c.loop-k.used c.args.spare.now _
+    (c.loop-k.auto.used ∙ length-take-le 312 c.args.spare.now (omega arith)) (omega arith) refl

@@ -16,4 +16,4 @@ returns g c =
     told_is g.met.S.Scale.lawful (rule_of laid.rule) c.args.table.now laid.count c.corners-size.result
     _ _ _ laid.counted c.corners-size.ensures.count (omega arith) (omega (arith, pow_pos laid.count))
     (c.unwrap_or.ensures ∙ row_given A _ laid.count _ c.row_by-verdict.result _ (listed A (end_marks A.pending (mark_of A) (inward false (rule_of laid.rule))))
-    c.row_by-verdict.ensures (length-take-le c.corners-size.result c.args.table.now (omega arith) ∙ c.corners-size.ensures.count) (λ cell l x p. search rules)) c.index-table-0.is c.index-table-size.is
+    c.row_by-verdict.ensures.answer (length-take-le c.corners-size.result c.args.table.now (omega arith) ∙ c.corners-size.ensures.count) (λ cell l x p. search rules)) c.index-table-0.is c.index-table-size.is

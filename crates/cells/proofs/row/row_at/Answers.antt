@@ -1,5 +1,0 @@
-use Rattle.cells.proofs.Rows.{row_laws}
-use Rattle.cells.proofs.row.row_at.Goals as goal
-
-pub returns-clause-laws : goal.returns-clause-laws
-returns-clause-laws g c = row_laws g.met.S.Scale.lawful
