@@ -21,12 +21,12 @@ use std::{env, io};
 #[derive(Drop)]
 struct Input {
     stdin: Option<Stdin>,
-    place: [u8; 65536],
+    place: [u8; 32768],
     from: usize,
     to: usize,
     ghost ordered: { from ≤ to },
-    ghost within: { to ≤ 65536 },
-    ghost long: { length place ≡ 65536 },
+    ghost within: { to ≤ 32768 },
+    ghost long: { length place ≡ 32768 },
 }
 
 impl Input {
@@ -85,7 +85,7 @@ fn main(rt: HostRuntime) -> io::Result<()> {
     let cells = env::args(&rt)?.any(|word| word.as_str() == "cells");
     let mut input = Input {
         stdin: Some(rt.stdin()),
-        place: [0; 65536],
+        place: [0; 32768],
         from: 0,
         to: 0,
     };
